@@ -114,7 +114,8 @@ impl Units {
         says: Says<'_, '_>,
     ) -> Result<(), AllocError>
         ensures ok { OnOk result (unit_texts self.new
-            ≡ unit_texts self.old ++ text_of_unit annotates location.entry (says_value says.entry) ∷ []) }
+            ≡ unit_texts self.old
+            ++ text_of_unit annotates location.entry (says_value says.entry) ∷ []) }
         ensures unchanged { OnErr result (unit_texts self.new ≡ unit_texts self.old) }
     {
         self.insert(self.mark(), annotates, location, says)

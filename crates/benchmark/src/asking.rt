@@ -10,7 +10,7 @@ use crate::calls::{bodies_of, calls_of};
 use crate::tenant::one_tenant;
 use faults::Fault;
 use json_doc::Doc;
-use std::alloc::Global;
+use std::alloc::{AllocError, Global};
 use tenant_hub::{Hub, Reply, Request};
 
 /// Has a new server with one tenant answer the requests of `before` once and those of `repeat` so often, and answers how many
@@ -38,19 +38,32 @@ pub fn count_answered(
         (map call_view calls.now) count (hub_view hub.new)) }
 {
     let replies = hub.run(alloc, calls)?;
-    Ok(answered(&replies) as u64)
+    Ok(answered(alloc, hub, replies)? as u64)
 }
 
-fn answered(replies: &[Reply]) -> usize
-    ensures { result ≡ answered_count (map reply_view replies.now) }
+// How many of the replies are no refusals. Each is told, and given back.
+fn answered(alloc: Global, hub: &mut Hub, replies: Vec<Reply>) -> Result<usize, AllocError>
+    ensures count { IfOk result (λ count. count
+        ≡ answered_count (map reply_view replies.items)) }
+    ensures registries { hub_view hub.new ≡ hub_view hub.old }
 {
     let mut count = 0;
     for reply in replies {
-        if !is_refused(reply) {
+        if !is_refused(&reply) {
             count += 1;
         }
+        tell(alloc, &reply)?;
+        hub.reuse(reply);
     }
-    count
+    Ok(count)
+}
+
+// Puts the text of an output together, as a connection does.
+fn tell(alloc: Global, reply: &Reply) -> Result<(), AllocError> {
+    if let Reply::Output(output) = reply {
+        output.text(alloc)?;
+    }
+    Ok(())
 }
 
 fn is_refused(reply: &Reply) -> bool

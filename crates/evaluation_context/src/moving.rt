@@ -32,7 +32,8 @@ impl<'a> Context<'a> {
         id: Option<&str>,
     ) -> Result<Return<'a>, AllocError>
         ensures there { (a : Application) (k : Text)
-            → option_map (λ t. t.now) id.entry ≡ text_at (codes "$id") (value planned.now.schema.now)
+            → option_map (λ t. t.now) id.entry
+            ≡ text_at (codes "$id") (value planned.now.schema.now)
             → frame_standing (context_view self.old) ≡ at_keyword k (standing_of a)
             → Contains (linked_schemas (scope_documents self.old.scope).now) a.schema
             → Contains (linked_schemas (scope_documents self.old.scope).now)

@@ -236,7 +236,8 @@ impl<'a> Log<'a> {
     /// A name was evaluated. The only error is want of memory.
     pub(crate) fn push_name(&mut self, name: Name<'a>) -> Result<(), AllocError>
         ensures { OnOk result (log_view self.new
-            ≡ notes_of_both (log_view self.old) (record no_notes { names = name_text name.entry ∷ [] })) }
+            ≡ notes_of_both (log_view self.old)
+            (record no_notes { names = name_text name.entry ∷ [] })) }
     {
         self.names.push(name)?;
         Ok(())

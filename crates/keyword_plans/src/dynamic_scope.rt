@@ -189,8 +189,8 @@ impl<'a> DynamicScope<'a> {
         requires { HasFollowedAnchor (scope_documents self.old).now (Some first) }
         ensures ok { HasResources (scope_documents self.old).now (scope_uris self.old)
             → IfOk result (λ t. target_view t
-            ≡ followed_in_scope (linked_schemas (scope_documents self.old).now) (scope_uris self.old)
-            first.entry) }
+            ≡ followed_in_scope (linked_schemas (scope_documents self.old).now)
+            (scope_uris self.old) first.entry) }
         ensures uris { scope_uris self.new ≡ scope_uris self.old }
         ensures documents { scope_documents self.new ≡ scope_documents self.old }
     {

@@ -306,8 +306,11 @@ fn is_short(resource: &str, reference: &str) -> bool {
 fn place_of(number: ReferenceNumber) -> usize
     ensures { result < 64 }
 {
-    let (document, _, _) = number.parts();
-    document.wrapping_mul(APART).wrapping_add(number.text()) % MOST_SHORT
+    number
+        .document()
+        .wrapping_mul(APART)
+        .wrapping_add(number.text())
+        % MOST_SHORT
 }
 
 // What the documents have under the reference, which has this number, where one is given.

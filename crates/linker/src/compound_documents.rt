@@ -30,7 +30,8 @@ pub(crate) struct CompoundDocuments {
     documents: Vec<Rc<Compiled>>,
     /// Of those behind the first four, the number of the first that has a resource, by its URI.
     numbers: BTreeMap<String, usize>,
-    ghost by_uri: { (uri : Text) → get_by_text numbers uri ≡ position_from (embeds uri) 4 (drop 4 (shared_documents documents.items)) },
+    ghost by_uri: { (uri : Text) → get_by_text numbers uri
+        ≡ position_from (embeds uri) 4 (drop 4 (shared_documents documents.items)) },
 }
 
 impl CompoundDocuments {

@@ -41,12 +41,14 @@ pub struct Linked {
     // The URIs of the resources that have a dynamic anchor, by its name.
     pub(crate) dynamic_resources: BTreeMap<String, BTreeSet<String>>,
     ghost ascend: { Ascend (shared_documents documents.items) } by { IsStrictlySortedBy-prop _ _ },
-    ghost distinct: { has_repeat same_text (resource_uris (table_of (shared_documents documents.items))) ≡ false },
+    ghost distinct: { has_repeat same_text
+        (resource_uris (table_of (shared_documents documents.items))) ≡ false },
     ghost known: { EmbedAlike (shared_documents documents.items) (compound_documents compound) } by { Prim.hlevel (props, value_set) },
     ghost whole: { missing_references (shared_documents documents.items) ≡ [] },
     ghost holder: { find (holds_resource (string_bytes uri)) (shared_documents documents.items)
         ≡ Some (compiled_view document.value) } by { Prim.hlevel (props, value_set) },
-    ghost is_numbered: { slice_get (resource_uris (compiled_schemas document.value)) number ≡ Some (string_bytes uri) },
+    ghost is_numbered: { slice_get (resource_uris (compiled_schemas document.value)) number
+        ≡ Some (string_bytes uri) },
     ghost by_dynamic_anchor: { (uri name : Text) → has_resource dynamic_resources uri name
         ≡ is_some (schema_with_dynamic_anchor
         (table_of (shared_documents documents.items)) uri name) },

@@ -34,8 +34,10 @@ pub struct ListSource {
     // Those of them that have several resources. Nothing once memory ran out for that, and then each document is asked.
     pub(crate) compound: Option<CompoundDocuments>,
     ghost ascend: { Ascend (shared_documents documents.items) } by { IsStrictlySortedBy-prop _ _ },
-    ghost distinct: { has_repeat same_text (resource_uris_of (shared_documents documents.items)) ≡ false },
-    ghost known: { IfSome compound (λ c. EmbedAlike (shared_documents documents.items) (compound_documents c)) } by { Prim.hlevel (props, value_set) },
+    ghost distinct: { has_repeat same_text (resource_uris_of (shared_documents documents.items))
+        ≡ false },
+    ghost known: { IfSome compound
+        (λ c. EmbedAlike (shared_documents documents.items) (compound_documents c)) } by { Prim.hlevel (props, value_set) },
     ghost faultless: { list_all is_faultless (shared_documents documents.items) ≡ true },
 }
 

@@ -26,7 +26,16 @@ pub struct ReferenceNumber {
 }
 
 impl ReferenceNumber {
+    /// The number of the document that it stands in.
+    #[inline(always)]
+    pub fn document(self) -> usize
+        ensures { result ≡ self.document }
+    {
+        self.document
+    }
+
     /// The number of its text among the references of its document.
+    #[inline(always)]
     pub fn text(self) -> usize
         ensures { result ≡ self.text }
     {

@@ -30,7 +30,8 @@ impl Output {
     /// By what was noted of the instance.
     pub fn new(valid: bool, units: Box<NotedUnits>) -> Output
         ensures { (o : Outcome) → o.valid ≡ valid
-            → unit_texts (counted_units valid units.value) ≡ map (unit_text valid) (reported_units o)
+            → unit_texts (counted_units valid units.value)
+            ≡ map (unit_text valid) (reported_units o)
             → output_view result ≡ (o.valid, output_text o) }
     {
         Output { valid, units }

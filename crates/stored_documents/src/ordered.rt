@@ -27,7 +27,8 @@ pub(crate) struct OrderedDocuments {
     stored: Vec<Rc<Stored>>,
     bytes: u64,
     ghost ascend: { Ascend (stored_documents stored.items) } by { IsStrictlySortedBy-prop _ _ },
-    ghost distinct: { has_repeat same_text (resource_uris_of (stored_documents stored.items)) ≡ false },
+    ghost distinct: { has_repeat same_text (resource_uris_of (stored_documents stored.items))
+        ≡ false },
     ghost measured: { bytes ≡ bytes_of (stored_documents stored.items) },
 }
 

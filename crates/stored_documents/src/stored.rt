@@ -38,7 +38,8 @@ pub struct Stored {
     ghost compact: { key.value.1 ≡ text (read_value key.value.1) },
     ghost faultless: { scan_fault key.value.0 (read_value key.value.1) ≡ None },
     ghost regular: { is_regular regular_search (read_value key.value.1) ≡ true },
-    ghost named: { string_bytes canonical ≡ (document_from key.value.0 (read_value key.value.1)).canonical },
+    ghost named: { string_bytes canonical
+        ≡ (document_from key.value.0 (read_value key.value.1)).canonical },
     ghost opened: { resources ≡ resources_of (document_from key.value.0 (read_value key.value.1)) },
 }
 

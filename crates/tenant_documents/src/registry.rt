@@ -24,7 +24,8 @@ pub struct Registry {
     pub(crate) most_bytes: u64,
     ghost few: { nat_lt most_documents (length (documents_in documents)) ≡ false },
     ghost small: { nat_lt most_bytes (bytes_of (documents_in documents)) ≡ false },
-    ghost apart: { list_any (shares_resource (documents_in documents)) (listed_documents library.value) ≡ false },
+    ghost apart: { list_any (shares_resource (documents_in documents))
+        (listed_documents library.value) ≡ false },
     ghost fresh: { NoneIsStale documents } by { NoneIsStale-prop _ },
 }
 

@@ -1,4 +1,3 @@
-pub mod Escaped
 pub mod Views
 pub mod Entries
 pub mod Converted
@@ -7,8 +6,6 @@ pub mod NamesInOrder
 pub mod Puts
 pub mod Equality
 pub mod Texts
-pub mod Unescaped
-pub mod Fragments
 pub mod Indexes
 pub mod Positions
 pub mod TokenReads

@@ -4,7 +4,7 @@ ghost use Rattle.std.specs.Prelude.{◌≡◌, ◌∷◌, ◌++◌, [], IfOk, On
 ghost use Rattle.locations.specs.Steps.{token, tokens};
 ghost use Rattle.keyword_plans.specs.Places.{index_order, name_order, step_order, steps_order};
 
-use json_doc::Pointer;
+use json_pointer::Pointer;
 use locations::Step;
 use std::alloc::{AllocError, Global};
 use std::cmp::Ordering;

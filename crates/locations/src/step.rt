@@ -5,7 +5,7 @@ ghost use Rattle.definitions.specs.Bytes.{slash};
 ghost use Rattle.definitions.specs.Pointers.{escaped_byte, fragment_text, percent_encoded_text, pointer_text};
 ghost use Rattle.locations.specs.Steps.{token, tokens};
 
-use json_doc::{push_fragment_token, push_token};
+use json_pointer::{push_fragment_token, push_token};
 use keywords::Keyword;
 use std::alloc::AllocError;
 

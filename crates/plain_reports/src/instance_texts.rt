@@ -1,7 +1,8 @@
 //! Where an instance's values stand in its text, and what they look like.
 
 use crate::shortening::shortened;
-use json_doc::{Doc, Fault, Pointer};
+use json_doc::{Doc, Fault};
+use json_pointer::Pointer;
 use std::alloc::Global;
 use text_places::{Places, Position, Positions};
 
@@ -54,6 +55,6 @@ impl<'a> InstanceText<'a> {
     /// The value at a location, as it was read; none where there is none. The only error is want of memory.
     pub(crate) fn value_at(&self, alloc: Global, location: &str) -> Result<Option<&Doc>, Fault> {
         let pointer = Pointer::parse(alloc, location)?;
-        Ok(pointer.find(&self.doc))
+        Ok(self.doc.find(&pointer))
     }
 }

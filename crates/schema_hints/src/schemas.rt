@@ -6,7 +6,8 @@ ghost use Rattle.json_doc.specs.Docs.{value, members_view};
 ghost use Rattle.schema_hints.specs.HintViews.{AreSchemas};
 ghost use Rattle.schema_hints.specs.SchemaPlaces.{ElementsAreSchemas, IsSchemaAt, MembersAreSchemas, extended};
 
-use json_doc::{Doc, Members, push_token};
+use json_doc::{Doc, Members};
+use json_pointer::push_token;
 use keywords::{Keyword, Shape};
 use std::alloc::{AllocError, Global};
 

@@ -8,7 +8,7 @@ ghost use Rattle.schema_table.specs.Missteps.{Misstep, wrong_shape, below_name, 
 ghost use Rattle.schema_table.specs.Refusals.{Refuses, way_up};
 
 use faults::Fault;
-use json_doc::Pointer;
+use json_pointer::Pointer;
 use locations::Step;
 use std::alloc::{AllocError, Global};
 

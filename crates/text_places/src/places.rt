@@ -10,7 +10,8 @@ use crate::nodes::{Extent, Nodes};
 use crate::position::{Position, Positions};
 use faults::Fault;
 use json::Scratch;
-use json_doc::{Doc, Pointer, read, same};
+use json_doc::{Doc, read, same};
+use json_pointer::Pointer;
 use std::alloc::Global;
 
 /// A part of a text: from the byte at `start` up to the one at `end`.
@@ -54,7 +55,7 @@ impl<'a> Places<'a> {
             (Spells (places_text self.old) (find pointer.now (value doc.now)))) }
         ensures err { IfErr result (λ f. f ≡ Fault.NoRoom) }
     {
-        let Some(located) = pointer.find(doc) else {
+        let Some(located) = doc.find(pointer) else {
             return Ok(None);
         };
         let Some(extent) = self.nodes.locate(pointer.tokens()) else {

@@ -10,7 +10,7 @@ ghost use Rattle.uri_ref.specs.Escapes.{after_digits};
 ghost use Rattle.uri_ref.specs.FragmentViews.{fragment_view};
 
 use faults::Fault;
-use json_doc::Pointer;
+use json_pointer::Pointer;
 use percent_encoding::{DecodeError, percent_decode_str};
 use std::alloc::Global;
 use std::borrow::CowStr;

@@ -1,6 +1,0 @@
-use Rattle.std.proofs.Common.{◌≡◌, map, string_bytes, take}
-use Rattle.definitions.specs.Pointers.{pointer_text}
-use Rattle.json_doc.proofs.pointer.Pointer.text.Given as goal
-
-abbrev pub invariant-loop-token : goal.invariant-loop-token
-invariant-loop-token l = string_bytes l.text ≡ pointer_text (map string_bytes (take l.token-index l.token-items))

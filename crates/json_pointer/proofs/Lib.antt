@@ -1,0 +1,3 @@
+pub mod Escaped
+pub mod Unescaped
+pub mod Fragments

@@ -6,7 +6,6 @@ pub mod NamesInOrder
 pub mod Puts
 pub mod Equality
 pub mod Texts
-pub mod Indexes
 pub mod Positions
 pub mod TokenReads
 pub mod WholeTexts

@@ -1,5 +1,4 @@
 pub mod Docs
-pub mod Indexes
 pub mod Members
 pub mod SmallTexts
 pub mod Kinds

@@ -4,7 +4,6 @@
 mod copying;
 mod depth;
 mod doc;
-mod finding;
 mod gathered;
 mod members;
 mod name_map;

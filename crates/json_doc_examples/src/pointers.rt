@@ -3,6 +3,7 @@
 use crate::expectations::{expect_holds, expect_told};
 use json_doc::{Doc, Fault, read, same};
 use json_pointer::Pointer;
+use locations::find;
 use std::alloc::Global;
 use std::process::Abort;
 
@@ -18,7 +19,7 @@ fn pushed(alloc: Global) -> Result<String, Fault> {
 fn leads_nowhere(alloc: Global) -> Result<bool, Fault> {
     let pointer = Pointer::new(alloc);
     let doc = Doc::List(vec![in alloc; Doc::Null]?);
-    let finds_it = doc.find(&pointer).is_some_and(|found| same(found, &doc));
+    let finds_it = find(&doc, &pointer).is_some_and(|found| same(found, &doc));
     Ok(finds_it && pointer.text(alloc)?.is_empty())
 }
 
@@ -84,7 +85,7 @@ const FOUND: &[(&str, &str, Option<u64>)] = &[
 fn finds(alloc: Global, text: &str, wanted: Option<u64>) -> Result<bool, Fault> {
     let doc = read(alloc, b"[7,[8]]")?;
     let pointer = Pointer::parse(alloc, text)?;
-    let number = doc.find(&pointer).and_then(|found| found.as_int());
+    let number = find(&doc, &pointer).and_then(|found| found.as_int());
     Ok(number.and_then(|it| it.as_u64()) == wanted)
 }
 

@@ -1,2 +1,3 @@
 pub mod SameTokens
 pub mod WayLaws
+pub mod Indexes

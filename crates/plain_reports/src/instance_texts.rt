@@ -3,6 +3,7 @@
 use crate::shortening::shortened;
 use json_doc::{Doc, Fault};
 use json_pointer::Pointer;
+use locations::find;
 use std::alloc::Global;
 use text_places::{Places, Position, Positions};
 
@@ -55,6 +56,6 @@ impl<'a> InstanceText<'a> {
     /// The value at a location, as it was read; none where there is none. The only error is want of memory.
     pub(crate) fn value_at(&self, alloc: Global, location: &str) -> Result<Option<&Doc>, Fault> {
         let pointer = Pointer::parse(alloc, location)?;
-        Ok(self.doc.find(&pointer))
+        Ok(find(&self.doc, &pointer))
     }
 }

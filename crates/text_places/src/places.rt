@@ -12,6 +12,7 @@ use faults::Fault;
 use json::Scratch;
 use json_doc::{Doc, read, same};
 use json_pointer::Pointer;
+use locations::find;
 use std::alloc::Global;
 
 /// A part of a text: from the byte at `start` up to the one at `end`.
@@ -55,7 +56,7 @@ impl<'a> Places<'a> {
             (Spells (places_text self.old) (find pointer.now (value doc.now)))) }
         ensures err { IfErr result (λ f. f ≡ Fault.NoRoom) }
     {
-        let Some(located) = doc.find(pointer) else {
+        let Some(located) = find(doc, pointer) else {
             return Ok(None);
         };
         let Some(extent) = self.nodes.locate(pointer.tokens()) else {

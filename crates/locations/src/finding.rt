@@ -3,26 +3,23 @@
 ghost use Rattle.std.specs.Prelude.{◌≡◌, option_and_then, option_map};
 ghost use Rattle.definitions.specs.Pointers.{array_index, child, find};
 ghost use Rattle.json_doc.specs.Docs.{value};
-ghost use Rattle.json_doc.specs.Indexes.{in_64_bits};
+ghost use Rattle.locations.specs.Indexes.{in_64_bits};
 
-use crate::doc::Doc;
+use json_doc::Doc;
 use json_pointer::Pointer;
 
-impl Doc {
-    /// The value that the pointer leads to from here, as the root of a document, if there is one (RFC 6901, section 4). This takes
-    /// no memory.
-    ///
-    /// In an object a token finds the member of its name; in an array the element whose index it is, written as `0` or as
-    /// digits without a leading zero. `-` finds none.
-    pub fn find(&self, pointer: &Pointer) -> Option<&Doc>
-        ensures { option_map (λ d. value d.now) result ≡ find pointer.now (value self.now) }
-    {
-        let mut found = self;
-        for token in pointer.tokens() {
-            found = child(token.as_str(), found)?;
-        }
-        Some(found)
+/// The value that the pointer leads to from the root of a document, if there is one (RFC 6901, section 4). This takes no memory.
+///
+/// In an object a token finds the member of its name; in an array the element whose index it is, written as `0` or as
+/// digits without a leading zero. `-` finds none.
+pub fn find<'a>(doc: &'a Doc, pointer: &Pointer) -> Option<&'a Doc>
+    ensures { option_map (λ d. value d.now) result ≡ find pointer.now (value doc.now) }
+{
+    let mut found = doc;
+    for token in pointer.tokens() {
+        found = child(token.as_str(), found)?;
     }
+    Some(found)
 }
 
 // What one token finds.

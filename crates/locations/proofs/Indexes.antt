@@ -10,7 +10,7 @@ use Rattle.definitions.specs.Values.{Text, Value, array, to_elements}
 use Rattle.definitions.specs.Pointers.{number_from, array_index, child}
 use Rattle.definitions.specs.Bytes.{is_digit}
 use Rattle.json_doc.specs.Docs.{value}
-use Rattle.json_doc.specs.Indexes.{in_64_bits}
+use Rattle.locations.specs.Indexes.{in_64_bits}
 use Rattle.json_doc.specs.declared.doc.Doc.{Doc}
 use Rattle.json_doc.proofs.Views.{elements_list-to_elements}
 

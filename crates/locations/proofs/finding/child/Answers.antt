@@ -3,8 +3,8 @@ use Rattle.std.proofs.lemmas.List.{length-map}
 use Rattle.std.specs.List.{slice_get}
 use Rattle.json_doc.specs.Docs.{value}
 use Rattle.json_doc.proofs.Views.{value-List}
-use Rattle.json_doc.proofs.Indexes.{element_of, element_at}
-use Rattle.json_doc.proofs.finding.child.Goals as goal
+use Rattle.locations.proofs.Indexes.{element_of, element_at}
+use Rattle.locations.proofs.finding.child.Goals as goal
 
 pub returns-in_err-array_index-in-List : goal.returns-in_err-array_index-in-List
 returns-in_err-array_index-in-List c =

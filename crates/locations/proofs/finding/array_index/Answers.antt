@@ -1,6 +1,6 @@
 use Rattle.std.proofs.Common.{◌≤◌, get_or, ◌∙◌, rules}
-use Rattle.json_doc.proofs.Indexes.{index_parsed}
-use Rattle.json_doc.proofs.finding.array_index.Goals as goal
+use Rattle.locations.proofs.Indexes.{index_parsed}
+use Rattle.locations.proofs.finding.array_index.Goals as goal
 
 pub returns-in-49-to-57 : goal.returns-in-49-to-57
 returns-in-49-to-57 c =

@@ -1,9 +1,9 @@
 use Rattle.std.proofs.Common.{◌≡◌, map, drop, string_bytes}
 use Rattle.definitions.specs.Pointers.{find}
 use Rattle.json_doc.specs.Docs.{value}
-use Rattle.json_doc.proofs.doc.Doc.find.Given as goal
+use Rattle.locations.proofs.finding.find.Given as goal
 
 abbrev pub invariant-loop-token : goal.invariant-loop-token
 invariant-loop-token l =
     find (map string_bytes (drop l.token-index l.token-items)) (value l.found)
-    ≡ find (map string_bytes l.token-items) (value l.fn.self.now)
+    ≡ find (map string_bytes l.token-items) (value l.fn.doc)

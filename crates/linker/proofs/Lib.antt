@@ -20,3 +20,4 @@ pub mod StandingSchemas
 pub mod HeldResources
 pub mod NumberedResources
 pub mod ToldTexts
+pub mod Searchable

@@ -1,8 +1,10 @@
 -- A visit of documents: those that are reached so far, and those of them whose references wait to be followed.
 use Rattle.std.specs.Prelude.{◌≡◌, ◌⊎◌, ◌+◌, ◌++◌, List, [], ◌∷◌, Bool, true, false, Contains, find, if◌then◌else◌, is_some, length, nat_lt}
-use Rattle.definitions.specs.Schemas.{Document}
+use Rattle.definitions.specs.Lists.{has_repeat}
+use Rattle.definitions.specs.Scanning.{resource_uris}
+use Rattle.definitions.specs.Schemas.{Document, table_of}
 use Rattle.definitions.specs.Documents.{document_of, documents_with, resources_of, Ascend}
-use Rattle.definitions.specs.Values.{Text}
+use Rattle.definitions.specs.Values.{Text, same_text}
 use Rattle.linker.specs.Sources.{embeds}
 
 -- documents of the source, in byte order of canonical URIs
@@ -18,6 +20,12 @@ pub record AreCompound (ds compound : List Document) : Type 0 where
 -- which of them has a resource is found there as among all
 abbrev pub EmbedAlike : List Document → List Document → Type 0
 EmbedAlike ds compound = (uri : Text) → find (embeds uri) compound ≡ find (embeds uri) ds
+
+-- the document with a resource is found among them: by its canonical URI, or by those that have several
+pub record AreSearchable (ds compound : List Document) : Type 0 where
+  pub ascend : Ascend ds
+  pub distinct : has_repeat same_text (resource_uris (table_of ds)) ≡ false
+  pub known : EmbedAlike ds compound
 
 -- and one document more, if it has several
 unfoldable pub with_compound : Document → List Document → List Document

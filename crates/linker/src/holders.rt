@@ -12,7 +12,7 @@ ghost use Rattle.schema_scan.specs.CompiledDocuments.{compiled_view};
 ghost use Rattle.linker.specs.CompoundDocuments.{compound_documents};
 ghost use Rattle.linker.specs.SharedDocuments.{shared_documents};
 ghost use Rattle.linker.specs.Sources.{embeds};
-ghost use Rattle.linker.specs.Visits.{AreCompound, EmbedAlike};
+ghost use Rattle.linker.specs.Visits.{AreCompound, AreSearchable};
 
 use crate::compound_documents::CompoundDocuments;
 use crate::insertion::position;
@@ -26,11 +26,7 @@ pub(crate) fn holder<'a>(
     compound: &'a CompoundDocuments,
     uri: &str,
 ) -> Option<&'a Rc<Compiled>>
-    requires ascend { Ascend (shared_documents documents.now) }
-    requires distinct { has_repeat same_text
-        (resource_uris (table_of (shared_documents documents.now))) ≡ false }
-    requires known { EmbedAlike (shared_documents documents.now)
-        (compound_documents compound.now) }
+    requires { AreSearchable (shared_documents documents.now) (compound_documents compound.now) }
     ensures { option_map (λ d. compiled_view d.now.value) result
         ≡ find (holds_resource uri.now) (shared_documents documents.now) }
 {
@@ -47,11 +43,7 @@ pub(crate) fn holder_number(
     compound: &CompoundDocuments,
     uri: &str,
 ) -> Option<usize>
-    requires ascend { Ascend (shared_documents documents.now) }
-    requires distinct { has_repeat same_text
-        (resource_uris (table_of (shared_documents documents.now))) ≡ false }
-    requires known { EmbedAlike (shared_documents documents.now)
-        (compound_documents compound.now) }
+    requires { AreSearchable (shared_documents documents.now) (compound_documents compound.now) }
     ensures { option_and_then (slice_get (shared_documents documents.now)) result
         ≡ find (holds_resource uri.now) (shared_documents documents.now) }
 {

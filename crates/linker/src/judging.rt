@@ -1,19 +1,16 @@
 //! References without a target (JSON Schema 2020-12 Core, section 8.2.3).
 
 ghost use Rattle.std.specs.Prelude.{◌≡◌, ◌++◌, List, Some, false, IfErr, IfOk, if◌then◌else◌, is_some, option_map};
-ghost use Rattle.definitions.specs.Documents.{Ascend};
 ghost use Rattle.definitions.specs.Fragments.{fragment_kind};
 ghost use Rattle.definitions.specs.Reach.{least, lesser, missing_references};
-ghost use Rattle.definitions.specs.Scanning.{resource_uris};
 ghost use Rattle.definitions.specs.Schemas.{table_of};
 ghost use Rattle.definitions.specs.Targets.{target, target_in};
-ghost use Rattle.definitions.specs.Values.{Text, same_text};
-ghost use Rattle.definitions.specs.Lists.{has_repeat};
+ghost use Rattle.definitions.specs.Values.{Text};
 ghost use Rattle.schema_scan.specs.CompiledDocuments.{compiled_schemas, compiled_view};
 ghost use Rattle.linker.specs.CompoundDocuments.{compound_documents};
 ghost use Rattle.linker.specs.Missing.{missing_in};
 ghost use Rattle.linker.specs.SharedDocuments.{shared_documents};
-ghost use Rattle.linker.specs.Visits.{EmbedAlike};
+ghost use Rattle.linker.specs.Visits.{AreSearchable};
 
 use crate::compound_documents::CompoundDocuments;
 use crate::holders::holder;
@@ -31,11 +28,7 @@ fn names_schema(
     compound: &CompoundDocuments,
     reference: &str,
 ) -> Result<bool, Fault>
-    requires ascend { Ascend (shared_documents documents.now) }
-    requires distinct { has_repeat same_text
-        (resource_uris (table_of (shared_documents documents.now))) ≡ false }
-    requires known { EmbedAlike (shared_documents documents.now)
-        (compound_documents compound.now) }
+    requires { AreSearchable (shared_documents documents.now) (compound_documents compound.now) }
     ensures ok { IfOk result
         (λ named. named ≡ is_some
         (target (table_of (shared_documents documents.now)) reference.now)) }
@@ -74,11 +67,7 @@ pub(crate) fn least_missing<'a>(
     documents: &'a [Rc<Compiled>],
     compound: &CompoundDocuments,
 ) -> Result<Option<&'a str>, Fault>
-    requires ascend { Ascend (shared_documents documents.now) }
-    requires distinct { has_repeat same_text
-        (resource_uris (table_of (shared_documents documents.now))) ≡ false }
-    requires known { EmbedAlike (shared_documents documents.now)
-        (compound_documents compound.now) }
+    requires { AreSearchable (shared_documents documents.now) (compound_documents compound.now) }
     ensures ok { IfOk result
         (λ t. option_map (λ t. t.now) t
         ≡ least (missing_references (shared_documents documents.now))) }
@@ -99,11 +88,7 @@ fn least_missing_of<'a>(
     document: &'a Compiled,
     found: Option<&'a str>,
 ) -> Result<Option<&'a str>, Fault>
-    requires ascend { Ascend (shared_documents documents.now) }
-    requires distinct { has_repeat same_text
-        (resource_uris (table_of (shared_documents documents.now))) ≡ false }
-    requires known { EmbedAlike (shared_documents documents.now)
-        (compound_documents compound.now) }
+    requires { AreSearchable (shared_documents documents.now) (compound_documents compound.now) }
     ensures ok { (before : List Text) → option_map (λ t. t.now) found.entry ≡ least before
         → IfOk result (λ t. option_map (λ t. t.now) t
         ≡ least (before ++ missing_in (shared_documents documents.now)
@@ -125,11 +110,7 @@ fn least_with<'a>(
     reference: &'a str,
     found: Option<&'a str>,
 ) -> Result<Option<&'a str>, Fault>
-    requires ascend { Ascend (shared_documents documents.now) }
-    requires distinct { has_repeat same_text
-        (resource_uris (table_of (shared_documents documents.now))) ≡ false }
-    requires known { EmbedAlike (shared_documents documents.now)
-        (compound_documents compound.now) }
+    requires { AreSearchable (shared_documents documents.now) (compound_documents compound.now) }
     ensures ok { IfOk result
         (λ t. option_map (λ t. t.now) t
         ≡ (if is_some (target (table_of (shared_documents documents.now))

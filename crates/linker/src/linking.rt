@@ -1,19 +1,16 @@
 //! Linking of a resource with what it refers to (JSON Schema 2020-12 Core, sections 8.2.3 and 9.2).
 
-ghost use Rattle.std.specs.Prelude.{◌≡◌, ◌≢◌, None, Some, false, find, is_some, slice_get, true, IfErr, IfOk, OnOk};
-ghost use Rattle.definitions.specs.Documents.{Ascend};
+ghost use Rattle.std.specs.Prelude.{◌≡◌, ◌≢◌, None, Some, find, is_some, slice_get, true, IfErr, IfOk, OnOk};
 ghost use Rattle.definitions.specs.Reach.{holds_resource, reach};
 ghost use Rattle.definitions.specs.Scanning.{resource_uris};
 ghost use Rattle.definitions.specs.Schemas.{table_of};
 ghost use Rattle.definitions.specs.Targets.{resource_root};
-ghost use Rattle.definitions.specs.Values.{same_text};
-ghost use Rattle.definitions.specs.Lists.{has_repeat};
 ghost use Rattle.faults.specs.View.{fault_view};
 ghost use Rattle.linker.specs.CompoundDocuments.{compound_documents};
 ghost use Rattle.linker.specs.LinkFaults.{link_fault};
 ghost use Rattle.linker.specs.LinkedDocuments.{linked_uri, linked_documents};
 ghost use Rattle.linker.specs.SharedDocuments.{shared_documents};
-ghost use Rattle.linker.specs.Visits.{EmbedAlike};
+ghost use Rattle.linker.specs.Visits.{AreSearchable};
 ghost use Rattle.schema_scan.specs.CompiledDocuments.{compiled_schemas, compiled_view};
 
 use crate::compound_documents::CompoundDocuments;
@@ -71,11 +68,7 @@ fn judge(
     documents: &[Rc<Compiled>],
     compound: &CompoundDocuments,
 ) -> Result<(), Fault>
-    requires ascend { Ascend (shared_documents documents.now) }
-    requires distinct { has_repeat same_text
-        (resource_uris (table_of (shared_documents documents.now))) ≡ false }
-    requires known { EmbedAlike (shared_documents documents.now)
-        (compound_documents compound.now) }
+    requires { AreSearchable (shared_documents documents.now) (compound_documents compound.now) }
     ensures ok { OnOk result (link_fault (shared_documents documents.now) ≡ None) }
     ensures err { IfErr result
         (λ f. f ≢ Fault.NoRoom → link_fault (shared_documents documents.now)
@@ -96,10 +89,7 @@ fn holder_of(
     compound: &CompoundDocuments,
     resource: &str,
 ) -> Result<(Rc<Compiled>, usize), Fault>
-    requires ascend { Ascend (shared_documents documents.now) }
-    requires distinct { has_repeat same_text
-        (resource_uris (table_of (shared_documents documents.now))) ≡ false }
-    requires known { EmbedAlike (shared_documents documents.now)
+    requires searchable { AreSearchable (shared_documents documents.now)
         (compound_documents compound.now) }
     requires asked { is_some
         (resource_root (table_of (shared_documents documents.now)) resource.now) ≡ true }

@@ -1,14 +1,8 @@
 //! The documents that references of linked documents lead to, by number.
 
-ghost use Rattle.std.specs.Prelude.{◌≡◌, false};
-ghost use Rattle.definitions.specs.Documents.{Ascend};
-ghost use Rattle.definitions.specs.Lists.{has_repeat};
-ghost use Rattle.definitions.specs.Scanning.{resource_uris};
-ghost use Rattle.definitions.specs.Schemas.{table_of};
-ghost use Rattle.definitions.specs.Values.{same_text};
 ghost use Rattle.linker.specs.CompoundDocuments.{compound_documents};
 ghost use Rattle.linker.specs.SharedDocuments.{shared_documents};
-ghost use Rattle.linker.specs.Visits.{EmbedAlike};
+ghost use Rattle.linker.specs.Visits.{AreSearchable};
 
 use crate::compound_documents::CompoundDocuments;
 use crate::holders::holder_number;
@@ -23,11 +17,7 @@ pub(crate) fn target_documents(
     documents: &[Rc<Compiled>],
     compound: &CompoundDocuments,
 ) -> Result<Vec<Vec<Option<usize>>>, AllocError>
-    requires ascend { Ascend (shared_documents documents.now) }
-    requires distinct { has_repeat same_text
-        (resource_uris (table_of (shared_documents documents.now))) ≡ false }
-    requires known { EmbedAlike (shared_documents documents.now)
-        (compound_documents compound.now) }
+    requires { AreSearchable (shared_documents documents.now) (compound_documents compound.now) }
 {
     let mut targets = Vec::new(alloc);
     if documents.len() > 1 {
@@ -45,11 +35,7 @@ fn targets_of(
     compound: &CompoundDocuments,
     document: &Compiled,
 ) -> Result<Vec<Option<usize>>, AllocError>
-    requires ascend { Ascend (shared_documents documents.now) }
-    requires distinct { has_repeat same_text
-        (resource_uris (table_of (shared_documents documents.now))) ≡ false }
-    requires known { EmbedAlike (shared_documents documents.now)
-        (compound_documents compound.now) }
+    requires { AreSearchable (shared_documents documents.now) (compound_documents compound.now) }
 {
     let mut numbers = Vec::new(alloc);
     if let Some(resource) = document.resource_uris().first() {
@@ -74,11 +60,7 @@ fn target_document(
     resource: &str,
     reference: &str,
 ) -> Option<usize>
-    requires ascend { Ascend (shared_documents documents.now) }
-    requires distinct { has_repeat same_text
-        (resource_uris (table_of (shared_documents documents.now))) ≡ false }
-    requires known { EmbedAlike (shared_documents documents.now)
-        (compound_documents compound.now) }
+    requires { AreSearchable (shared_documents documents.now) (compound_documents compound.now) }
 {
     let named = document.absolute_reference(resource, reference)?;
     holder_number(documents, compound, named.uri.as_str())

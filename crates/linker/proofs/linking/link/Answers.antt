@@ -13,6 +13,7 @@ use Rattle.linker.specs.SharedDocuments.{shared_documents}
 use Rattle.linker.specs.Visits.{EmbedAlike}
 use Rattle.linker.proofs.LinkFaults.{IsLinked, is_linked, reached_table}
 use Rattle.linker.proofs.Visits.{reach_ascends}
+use Rattle.linker.proofs.Searchable.{searchable_as, searchable_linked}
 use Rattle.linker.proofs.linking.link.Goals as goal
 
 pub judge-requires : goal.judge-requires
@@ -28,30 +29,20 @@ judge-requires g c =
 
 pub holder_of-requires : goal.holder_of-requires
 holder_of-requires g c =
-    let ds = shared_documents c.in_ok-documents.field-0.documents.items in
-    let same = ap shared_documents c.deref-2.ensures.value in
-    let linked : IsLinked ds c.args.resource.now =
-    is_linked (g.S.Source.documents c.args.source.now) ds c.args.resource.now (g.met.S.Source.sound c.args.source.now) c.in_ok-documents.ensures.ok
+    let linked =
+    is_linked (g.S.Source.documents c.args.source.now) _ c.args.resource.now (g.met.S.Source.sound c.args.source.now) c.in_ok-documents.ensures.ok
     (subst (λ xs. link_fault (shared_documents xs) ≡ None) c.deref.ensures.value c.in_ok-judge.ensures.ok) in
     record {
-      ascend = subst Ascend (sym same) linked.ascend;
-      distinct = ap (λ xs. has_repeat same_text (resource_uris (table_of xs))) same ∙ linked.distinct;
-      known = subst (λ xs. EmbedAlike (shared_documents xs) (compound_documents c.in_ok-documents.field-0.compound)) (sym c.deref-2.ensures.value) c.in_ok-documents.ensures.known;
-      asked = ap (λ xs. is_some (resource_root (table_of xs) c.args.resource.now)) same ∙ linked.asked;
+      searchable = searchable_as _ _ (compound_documents c.in_ok-documents.field-0.compound) (sym c.deref-2.ensures.value) (searchable_linked _ c.args.resource.now _ linked c.in_ok-documents.ensures.known);
+      asked = ap (λ xs. is_some (resource_root (table_of xs) c.args.resource.now)) (ap shared_documents c.deref-2.ensures.value) ∙ linked.asked;
     }
 
 pub target_documents-requires : goal.target_documents-requires
 target_documents-requires g c =
-    let ds = shared_documents c.in_ok-documents.field-0.documents.items in
-    let same = ap shared_documents c.deref-4.ensures.value in
-    let linked : IsLinked ds c.args.resource.now =
-    is_linked (g.S.Source.documents c.args.source.now) ds c.args.resource.now (g.met.S.Source.sound c.args.source.now) c.in_ok-documents.ensures.ok
+    let linked =
+    is_linked (g.S.Source.documents c.args.source.now) _ c.args.resource.now (g.met.S.Source.sound c.args.source.now) c.in_ok-documents.ensures.ok
     (subst (λ xs. link_fault (shared_documents xs) ≡ None) c.deref.ensures.value c.in_ok-judge.ensures.ok) in
-    record {
-      ascend = subst Ascend (sym same) linked.ascend;
-      distinct = ap (λ xs. has_repeat same_text (resource_uris (table_of xs))) same ∙ linked.distinct;
-      known = subst (λ xs. EmbedAlike (shared_documents xs) (compound_documents c.in_ok-documents.field-0.compound)) (sym c.deref-4.ensures.value) c.in_ok-documents.ensures.known;
-    }
+    searchable_as _ _ (compound_documents c.in_ok-documents.field-0.compound) (sym c.deref-4.ensures.value) (searchable_linked _ c.args.resource.now _ linked c.in_ok-documents.ensures.known)
 
 pub invariant_of-result : goal.invariant_of-result
 invariant_of-result g c =

@@ -1,9 +1,9 @@
 //! What keywords look at, their names, and how they annotate.
 
 use crate::texts::expect_holds;
+use applicators::{Evaluated, Subject, annotate, distinct_names};
 use basic_output::Says;
 use json_doc::{Doc, Fault, Name, read};
-use keyword_plans::{Evaluated, Subject, annotate, distinct_names};
 use keywords::Keyword;
 use std::alloc::{AllocError, Global};
 

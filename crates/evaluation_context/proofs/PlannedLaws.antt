@@ -13,10 +13,10 @@ use Rattle.std.specs.declared.rc.Rc.{Rc}
 use Rattle.locations.specs.declared.step.Step.{Step}
 use Rattle.basic_output.specs.PointerViews.{origin_view}
 use Rattle.basic_output.specs.declared.origin.Origin.{Origin}
-use Rattle.keyword_plans.specs.Followed.{schema_at_origin}
-use Rattle.keyword_plans.specs.Plans.{step_view, way_application, way_view}
-use Rattle.keyword_plans.specs.declared.planned.Way.{Way}
-use Rattle.keyword_plans.specs.declared.planned.Way.TheVariants as ways
+use Rattle.applicators.specs.Origins.{schema_at_origin}
+use Rattle.applicators.specs.Plans.{step_view, way_application, way_view}
+use Rattle.applicators.specs.declared.planned.Way.{Way}
+use Rattle.applicators.specs.declared.planned.Way.TheVariants as ways
 use Rattle.evaluation_context.specs.Frames.{Frame, frame_pointer, frame_standing}
 use Rattle.evaluation_context.specs.Standings.{Standing, at_keyword, standing_of}
 use Rattle.evaluation_context.specs.Moves.{frame_below, frame_at, at_origin, schema_on_way, standing_at}

@@ -4,10 +4,10 @@ use Rattle.definitions.specs.Values.{Text, Value}
 use Rattle.definitions.specs.Pointers.{Pointer}
 use Rattle.definitions.specs.Schemas.{Identity, Schema, schema_at}
 use Rattle.definitions.specs.Applied.{InstanceLocation}
-use Rattle.keyword_plans.specs.Followed.{schema_at_origin}
-use Rattle.keyword_plans.specs.Plans.{way_view}
-use Rattle.keyword_plans.specs.declared.planned.Way.{Way}
-use Rattle.keyword_plans.specs.declared.planned.Way.TheVariants.{Own, Member, Element, Target}
+use Rattle.applicators.specs.Origins.{schema_at_origin}
+use Rattle.applicators.specs.Plans.{way_view}
+use Rattle.applicators.specs.declared.planned.Way.{Way}
+use Rattle.applicators.specs.declared.planned.Way.TheVariants.{Own, Member, Element, Target}
 use Rattle.evaluation_context.specs.Frames.{Frame}
 use Rattle.evaluation_context.specs.Standings.{Standing}
 

@@ -4,12 +4,12 @@ ghost use Rattle.std.specs.Prelude.{◌≡◌, true, false};
 ghost use Rattle.std.specs.List.{list_any};
 ghost use Rattle.definitions.specs.Applied.{part_location};
 ghost use Rattle.definitions.specs.Schemas.{Identity};
-ghost use Rattle.keyword_plans.specs.Plans.{part_view};
+ghost use Rattle.applicators.specs.Plans.{part_view};
 ghost use Rattle.evaluation_context.specs.Frames.{context_view, frame_standing};
 ghost use Rattle.evaluation_context.specs.Runnings.{is_running_as};
 
 use crate::context::Context;
-use keyword_plans::Part;
+use applicators::Part;
 
 impl<'a> Context<'a> {
     /// Whether a part of the instance lies below the instance location: a member, or an element. Then no schema is being

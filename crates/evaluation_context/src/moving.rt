@@ -7,7 +7,7 @@ ghost use Rattle.definitions.specs.Applied.{Application, part_location};
 ghost use Rattle.basic_output.specs.PointerViews.{origin_view};
 ghost use Rattle.json_doc.specs.Docs.{value};
 ghost use Rattle.keyword_plans.specs.OpenedResources.{Opens};
-ghost use Rattle.keyword_plans.specs.Plans.{part_view, planned_view, step_view, way_view};
+ghost use Rattle.applicators.specs.Plans.{part_view, planned_view, step_view, way_view};
 ghost use Rattle.keyword_plans.specs.ScopeViews.{scope_documents};
 ghost use Rattle.linker.specs.LinkedDocuments.{linked_schemas};
 ghost use Rattle.evaluation_context.specs.Standings.{at_keyword, standing_of};
@@ -16,8 +16,8 @@ ghost use Rattle.evaluation_context.specs.Moves.{Onward, at_origin, frame_at, fr
 ghost use Rattle.evaluation_context.specs.Returns.{CameFrom, origin_before};
 
 use crate::context::{Context, Return};
+use applicators::{Part, Planned, Way};
 use basic_output::Origin;
-use keyword_plans::{Part, Planned, Way};
 use locations::Step;
 use std::alloc::{AllocError, Global};
 use std::mem::replace;

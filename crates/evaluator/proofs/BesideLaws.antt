@@ -9,7 +9,8 @@ use Rattle.definitions.specs.Applied.{Application, Outcome, Part, Rules, at_item
 use Rattle.definitions.specs.Outcomes.{Use, uses_by_keyword, uses_of}
 use Rattle.linker.specs.declared.linked.Linked.{Linked}
 use Rattle.keywords.specs.Rows.{row_of}
-use Rattle.keyword_plans.specs.Applications.{named_count, planned_members}
+use Rattle.applicators.specs.Applications.{planned_members}
+use Rattle.keyword_plans.specs.Applications.{named_count}
 use Rattle.keyword_plans.specs.Sites.{linked_rules}
 use Rattle.keywords.specs.declared.keyword.Keyword.{Keyword}
 use Rattle.keywords.specs.declared.keyword.Keyword.TheVariants.{If, Then, Else, Contains, MinContains, MaxContains, Properties}

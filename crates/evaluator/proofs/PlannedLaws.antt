@@ -14,11 +14,11 @@ use Rattle.definition_laws.proofs.Places.{value-opened}
 use Rattle.json_doc.specs.Docs.{value}
 use Rattle.linker.specs.declared.linked.Linked.{Linked}
 use Rattle.keyword_plans.specs.LinkedResources.{HasResources}
-use Rattle.keyword_plans.specs.Plans.{part_view, planned_view, way_application}
-use Rattle.keyword_plans.specs.Subjects.{subject_value}
-use Rattle.keyword_plans.specs.declared.planned.Planned.{Planned}
-use Rattle.keyword_plans.specs.declared.planned.Way.{Way}
-use Rattle.keyword_plans.specs.declared.planned.Way.TheVariants.{Own, Member, Element, Target}
+use Rattle.applicators.specs.Plans.{part_view, planned_view, way_application}
+use Rattle.applicators.specs.Subjects.{subject_value}
+use Rattle.applicators.specs.declared.planned.Planned.{Planned}
+use Rattle.applicators.specs.declared.planned.Way.{Way}
+use Rattle.applicators.specs.declared.planned.Way.TheVariants.{Own, Member, Element, Target}
 use Rattle.evaluation_context.specs.Frames.{Frame, frame_standing}
 use Rattle.evaluation_context.specs.Standings.{Standing, application_at, standing_of}
 use Rattle.evaluator.specs.Findings.{FindsAll, Outcomes}

@@ -16,15 +16,15 @@ use Rattle.definition_laws.proofs.Reports.{failing_annotates_nothing, passing_re
 use Rattle.basic_output.specs.Pieces.{unit_text}
 use Rattle.linker.specs.LinkedDocuments.{linked_documents, linked_schemas}
 use Rattle.linker.specs.declared.linked.Linked.{Linked}
-use Rattle.keyword_plans.specs.Annotations.{annotation_names}
+use Rattle.applicators.specs.Annotations.{annotation_names}
 use Rattle.keyword_plans.specs.LinkedResources.{HasResources}
-use Rattle.keyword_plans.specs.Plans.{planned_view}
+use Rattle.applicators.specs.Plans.{planned_view}
 use Rattle.keywords.specs.Rows.{row_of}
 use Rattle.keywords.proofs.Grouped.{row_in}
 use Rattle.keyword_plans.specs.Sites.{linked_rules}
 use Rattle.keywords.specs.declared.keyword.Keyword.{Keyword}
 use Rattle.keywords.specs.declared.keyword.Keyword.TheVariants.{PatternProperties}
-use Rattle.keyword_plans.specs.declared.planned.Planned.{Planned}
+use Rattle.applicators.specs.declared.planned.Planned.{Planned}
 use Rattle.evaluation_context.specs.Frames.{Frame, frame_standing}
 use Rattle.evaluation_context.specs.Standings.{at_keyword, standing_of, unit_there}
 use Rattle.evaluator.specs.Findings.{FindsAll, passing_first}

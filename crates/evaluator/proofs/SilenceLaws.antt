@@ -14,12 +14,12 @@ use Rattle.assertions.specs.AssertionView.{assertion_in}
 use Rattle.json_doc.specs.Docs.{value}
 use Rattle.json_doc.specs.Kinds.{as_boolean}
 use Rattle.linker.specs.declared.linked.Linked.{Linked}
-use Rattle.keyword_plans.specs.Plans.{part_view, planned_view, way_application}
+use Rattle.applicators.specs.Plans.{part_view, planned_view, way_application}
 use Rattle.keyword_plans.specs.Sites.{linked_rules}
-use Rattle.keyword_plans.specs.Subjects.{subject_value}
-use Rattle.keyword_plans.specs.declared.planned.Planned.{Planned}
-use Rattle.keyword_plans.specs.declared.planned.Way.{Way}
-use Rattle.keyword_plans.specs.declared.planned.Way.TheVariants.{Own, Member, Element, Target}
+use Rattle.applicators.specs.Subjects.{subject_value}
+use Rattle.applicators.specs.declared.planned.Planned.{Planned}
+use Rattle.applicators.specs.declared.planned.Way.{Way}
+use Rattle.applicators.specs.declared.planned.Way.TheVariants.{Own, Member, Element, Target}
 use Rattle.keywords.specs.Rows.{row_of}
 use Rattle.keywords.specs.declared.group.Group.TheVariants.{One}
 use Rattle.keywords.specs.declared.keyword.Keyword.{Keyword}

@@ -8,9 +8,9 @@ use Rattle.json_doc.specs.Docs.{value}
 use Rattle.json_doc.specs.declared.doc.Doc.{Doc}
 use Rattle.linker.specs.declared.linked.Linked.{Linked}
 use Rattle.keyword_plans.specs.Sites.{linked_rules}
-use Rattle.keyword_plans.specs.Subjects.{subject_value}
-use Rattle.keyword_plans.specs.declared.planned.Planned.{Planned}
-use Rattle.keyword_plans.specs.declared.subject.Subject.{Subject}
+use Rattle.applicators.specs.Subjects.{subject_value}
+use Rattle.applicators.specs.declared.planned.Planned.{Planned}
+use Rattle.applicators.specs.declared.subject.Subject.{Subject}
 use Rattle.evaluation_context.specs.Frames.{context_view}
 use Rattle.evaluator.specs.Logs.{log_view}
 use Rattle.evaluator.specs.Notes.{IsOver, Notes, notes_of_both}

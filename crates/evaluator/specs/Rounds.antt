@@ -10,12 +10,13 @@ use Rattle.linker.specs.LinkedDocuments.{linked_schemas}
 use Rattle.linker.specs.declared.linked.Linked.{Linked}
 use Rattle.keyword_plans.specs.Applications.{named_count}
 use Rattle.keyword_plans.specs.LinkedResources.{HasResources}
-use Rattle.keyword_plans.specs.Plans.{counts_contained, is_consequence, outcomes_of, planned_view, takes_others}
+use Rattle.applicators.specs.Plans.{outcomes_of, planned_view}
+use Rattle.keyword_plans.specs.Plans.{counts_contained, is_consequence, takes_others}
 use Rattle.keywords.specs.Rows.{row_of}
 use Rattle.keyword_plans.specs.Sites.{linked_rules}
 use Rattle.keywords.specs.declared.keyword.Keyword.{Keyword}
 use Rattle.keywords.specs.declared.keyword.Keyword.TheVariants.{UnevaluatedItems, UnevaluatedProperties}
-use Rattle.keyword_plans.specs.declared.planned.Planned.{Planned}
+use Rattle.applicators.specs.declared.planned.Planned.{Planned}
 use Rattle.evaluation_context.specs.Frames.{Frame, frame_standing}
 use Rattle.evaluation_context.specs.Standings.{application_at, at_keyword, standing_of}
 use Rattle.evaluator.specs.Findings.{Outcomes}

@@ -2,7 +2,7 @@
 
 use crate::log::Before;
 use crate::present::Present;
-use keyword_plans::Subject;
+use applicators::Subject;
 
 /// What is applied here: a schema object, what it is applied to, and how much was evaluated before its keywords.
 #[derive(Clone, Copy)]

@@ -9,8 +9,8 @@ use crate::halt::Halt;
 use crate::here::Here;
 use crate::present::Present;
 use crate::settling_object::settle_object;
+use applicators::Subject;
 use assertions::Assertion;
-use keyword_plans::Subject;
 use keywords::Group;
 
 impl<'a> Evaluation<'a> {

@@ -8,9 +8,9 @@ ghost use Rattle.json_doc.specs.NamedMembers.{name_text};
 ghost use Rattle.keywords.specs.Rows.{row_of};
 ghost use Rattle.evaluator.specs.Notes.{needs_to_pass};
 
+use applicators::Part;
 use basic_output::{Location, Mark, Says};
 use json_doc::Name;
-use keyword_plans::Part;
 use keywords::Keyword;
 use output_texts::NotedUnits;
 use std::alloc::{AllocError, Global};
@@ -100,7 +100,7 @@ impl<'a> Log<'a> {
     ghost use Rattle.definitions.specs.Applied.{Outcome};
     ghost use Rattle.definitions.specs.Keywords.{Meaning};
     ghost use Rattle.definitions.specs.Outcomes.{leaf};
-    ghost use Rattle.keyword_plans.specs.Plans.{part_view};
+    ghost use Rattle.applicators.specs.Plans.{part_view};
     ghost use Rattle.evaluator.specs.Notes.{Notes, lengths, no_notes, notes_of_both, one_application, outcome_notes, part_notes};
     ghost use Rattle.evaluator.specs.Logs.{log_view, mark_view};
     ghost use Rattle.evaluator.specs.Silences.{IsSilent};

@@ -11,8 +11,9 @@ use crate::here::Here;
 use crate::log::LogMark;
 use crate::present::Present;
 use crate::settling::{evaluated_for, settle};
+use applicators::Planned;
 use json_doc::Doc;
-use keyword_plans::{Earlier, Planned, Site, passes, plan, surely_applies_nothing};
+use keyword_plans::{Earlier, Site, passes, plan, surely_applies_nothing};
 use keywords::{KEYWORDS, Keyword};
 use std::alloc::AllocError;
 
@@ -23,10 +24,10 @@ impl<'a> Evaluation<'a> {
     ghost use Rattle.definitions.specs.Applied.{Application};
     ghost use Rattle.definitions.specs.Applied as definition;
     ghost use Rattle.definitions.specs.Evaluated.{pass_count};
-    ghost use Rattle.keyword_plans.specs.Plans.{planned_view};
+    ghost use Rattle.applicators.specs.Plans.{planned_view};
     ghost use Rattle.keywords.specs.Rows.{row_of};
     ghost use Rattle.keyword_plans.specs.Sites.{linked_rules};
-    ghost use Rattle.keyword_plans.specs.Subjects.{subject_value};
+    ghost use Rattle.applicators.specs.Subjects.{subject_value};
     ghost use Rattle.evaluation_context.specs.Frames.{Frame, context_view, keyword_frame};
     ghost use Rattle.evaluator.specs.Applying.{Adds, AreKnown, IsCostly, IsHere};
     ghost use Rattle.evaluator.specs.Findings.{FindsAll, passing_first};

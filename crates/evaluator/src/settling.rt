@@ -9,22 +9,22 @@ ghost use Rattle.definitions.specs.Keywords.{looks_at_evaluated};
 ghost use Rattle.definitions.specs.Outcomes.{Use, own_annotation};
 ghost use Rattle.basic_output.specs.Units.{unit_texts};
 ghost use Rattle.evaluation_context.specs.Frames.{context_view};
-ghost use Rattle.keyword_plans.specs.Annotations.{annotation_names};
+ghost use Rattle.applicators.specs.Annotations.{annotation_names};
 ghost use Rattle.keyword_plans.specs.ScopeViews.{scope_documents};
-ghost use Rattle.keyword_plans.specs.Plans.{outcomes_of};
+ghost use Rattle.applicators.specs.Plans.{outcomes_of};
 ghost use Rattle.json_doc.specs.NamedMembers.{name_text};
 ghost use Rattle.keywords.specs.Rows.{row_of};
-ghost use Rattle.keyword_plans.specs.Subjects.{subject_value};
+ghost use Rattle.applicators.specs.Subjects.{subject_value};
 ghost use Rattle.linker.specs.declared.linked.Linked.{Linked};
 ghost use Rattle.evaluator.specs.Logs.{log_view, mark_view};
 ghost use Rattle.evaluator.specs.Notes.{Notes, annotation_texts, evaluates, lengths, notes_of_both, parts_notes, uses_notes, visible_notes};
 ghost use Rattle.evaluator.specs.Rounds.{IsUnder, linked_outcome, use_there};
 
 use crate::log::{Before, Log, LogMark};
+use applicators::{Evaluated, Subject, annotate, distinct_names};
 use basic_output::{Mark, Says, Units};
 use evaluation_context::Context;
 use json_doc::Name;
-use keyword_plans::{Evaluated, Subject, annotate, distinct_names};
 use keywords::Keyword;
 use std::alloc::AllocError;
 

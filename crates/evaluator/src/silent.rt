@@ -9,9 +9,10 @@ ghost use Rattle.evaluator.specs.Leaves.{is_leaf_mark};
 ghost use Rattle.evaluator.specs.Presents.{mark_of};
 
 use crate::applying::Evaluation;
+use applicators::{Planned, Subject};
 use assertions::Assertion;
 use json_doc::{Doc, Members, Name};
-use keyword_plans::{Planned, Subject, holds_of};
+use keyword_plans::holds_of;
 use keywords::Keyword;
 use std::alloc::AllocError;
 
@@ -26,7 +27,7 @@ impl<'a> Evaluation<'a> {
     ghost use Rattle.definitions.specs.Applied.{Application};
     ghost use Rattle.definitions.specs.Limits.{limits};
     ghost use Rattle.definitions.specs.Values.{Text};
-    ghost use Rattle.keyword_plans.specs.Subjects.{subject_value};
+    ghost use Rattle.applicators.specs.Subjects.{subject_value};
     ghost use Rattle.evaluation_context.specs.Frames.{context_view};
     ghost use Rattle.evaluator.specs.Rounds.{IsUnder, part_outcome};
     ghost use Rattle.evaluator.specs.Silences.{IsSilent, is_met_alone};

@@ -20,9 +20,10 @@ use Rattle.definitions.specs.Patterns.{has_match}
 use Rattle.definitions.specs.Applied.{Application, Part, beside, is_taken}
 use Rattle.json_doc.specs.Members.{HasNamesInOrder}
 use Rattle.linker.specs.declared.linked.Linked.{Linked}
-use Rattle.keyword_plans.specs.Applications.{at_schema, named_count, planned_at_names, planned_others}
+use Rattle.applicators.specs.Applications.{at_schema, planned_at_names}
+use Rattle.keyword_plans.specs.Applications.{named_count, planned_others}
 use Rattle.keyword_plans.specs.Sites.{linked_rules}
-use Rattle.keyword_plans.proofs.SharedNames.{along_members}
+use Rattle.applicators.proofs.SharedNames.{along_members}
 
 abbrev is_named : List (Text × Value) → Text × Value → Bool
 is_named ss m = is_some (entry m.0 ss)

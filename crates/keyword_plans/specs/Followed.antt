@@ -5,23 +5,18 @@ use Rattle.std.specs.List.{All}
 use Rattle.definitions.specs.Resolution.{target_uri}
 use Rattle.definitions.specs.Schemas.{Schema}
 use Rattle.definitions.specs.Targets.{target, dynamic_target}
-use Rattle.definitions.specs.Values.{Text, Value}
+use Rattle.definitions.specs.Values.{Text}
 use Rattle.linker.specs.DynamicTargets.{target_by_anchor}
 use Rattle.linker.specs.LinkedDocuments.{linked_schemas}
 use Rattle.linker.specs.ReferenceNumbers.{reference_pair}
 use Rattle.linker.specs.declared.linked.Linked.{Linked}
 use Rattle.schema_scan.specs.ReferenceTexts.{HasReference}
 use Rattle.json_doc.specs.Docs.{value}
-use Rattle.basic_output.specs.PointerViews.{origin_view}
-use Rattle.basic_output.specs.declared.origin.Origin.{Origin}
+use Rattle.applicators.specs.Origins.{schema_at_origin}
 use Rattle.keyword_plans.specs.LinkedResources.{HasAnchor}
 use Rattle.keyword_plans.specs.declared.target.Target.{Target}
 use Rattle.keyword_plans.specs.declared.followed_references.Followed.{Followed}
 use Rattle.keyword_plans.specs.declared.followed_references.FollowedReference.{FollowedReference}
-
--- the schema with this value, at this origin
-abbrev pub schema_at_origin : Origin → Value → Schema
-schema_at_origin o v = record { resource = (origin_view o).0; pointer = (origin_view o).1; value = v }
 
 -- the schema that a reference names
 abbrev pub target_view : Target → Schema

@@ -1,11 +1,9 @@
-pub mod Subjects
 pub mod Sites
 pub mod Followed
 pub mod FollowedIn
 pub mod Searched
 pub mod ScopeViews
 pub mod Plans
-pub mod Annotations
 pub mod Applications
 pub mod Beside
 pub mod Places

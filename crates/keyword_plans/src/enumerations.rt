@@ -15,11 +15,11 @@ ghost use Rattle.locations.specs.Steps.{tokens};
 ghost use Rattle.value_order.specs.Searched.{has_value};
 ghost use Rattle.keyword_plans.specs.Enumerated.{IsEnumerated, IsPlacedAt};
 ghost use Rattle.keyword_plans.specs.Places.{steps_order};
-ghost use Rattle.keyword_plans.specs.Subjects.{subject_value};
+ghost use Rattle.applicators.specs.Subjects.{subject_value};
 
 use crate::places::{compare_steps, pointer_to};
-use crate::subject::Subject;
 use crate::verdict::holds_of;
+use applicators::Subject;
 use assertions::Assertion;
 use faults::Fault;
 use json_doc::Doc;

@@ -8,33 +8,29 @@ ghost use Rattle.json_doc.specs.NamedMembers.{name_text};
 ghost use Rattle.keywords.specs.Rows.{row_of};
 ghost use Rattle.keyword_plans.specs.ScopeViews.{scope_documents, scope_uris};
 ghost use Rattle.keyword_plans.specs.SearchedIn.{searched_in};
-ghost use Rattle.keyword_plans.specs.Plans.{applies_in_place, follows_reference, is_consequence, planned_view, searches_patterns, takes_others};
+ghost use Rattle.applicators.specs.Plans.{planned_view};
+ghost use Rattle.keyword_plans.specs.Plans.{applies_in_place, follows_reference, is_consequence, searches_patterns, takes_others};
 ghost use Rattle.keyword_plans.specs.Applications.{named_count};
 ghost use Rattle.keyword_plans.specs.Sites.{Shows, linked_rules};
-ghost use Rattle.keyword_plans.specs.Subjects.{subject_value};
+ghost use Rattle.applicators.specs.Subjects.{subject_value};
 ghost use Rattle.linker.specs.LinkedDocuments.{linked_schemas};
 ghost use Rattle.linker.specs.declared.linked.Linked.{Linked};
 
-mod in_place;
-mod items;
 mod matching;
-mod members;
 mod others;
 mod references;
-mod unevaluated;
 
 use crate::dynamic_scope::DynamicScope;
-use crate::planned::Planned;
-use crate::planning::in_place::{plan_consequence, plan_dependents, plan_listed, plan_own};
-use crate::planning::items::{plan_items, plan_prefix, prefix_length};
 use crate::planning::matching::plan_patterns;
-use crate::planning::members::{plan_names, plan_properties};
 use crate::planning::others::{are_all_named, plan_others};
 use crate::planning::references::{plan_dynamic_reference, plan_reference};
-use crate::planning::unevaluated::{plan_unevaluated_items, plan_unevaluated_properties};
 use crate::searches::Searches;
-use crate::site::{Earlier, Evaluated, Site};
-use crate::subject::Subject;
+use crate::site::{Earlier, Site};
+use applicators::{
+    Evaluated, Planned, Subject, plan_consequence, plan_dependents, plan_items, plan_listed,
+    plan_names, plan_own, plan_prefix, plan_properties, plan_unevaluated_items,
+    plan_unevaluated_properties, prefix_length,
+};
 use json_doc::Doc;
 use keywords::Keyword;
 use std::alloc::AllocError;

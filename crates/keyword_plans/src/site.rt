@@ -1,7 +1,7 @@
 //! Where a keyword is used.
 
-use crate::subject::Subject;
-use json_doc::{Doc, Name};
+use applicators::{Evaluated, Subject};
+use json_doc::Doc;
 use linker::Linked;
 
 /// The application of a schema object, as its keywords see it.
@@ -15,16 +15,6 @@ pub struct Site<'a> {
     pub schema: &'a Doc,
     /// What it is applied to.
     pub subject: Subject<'a>,
-}
-
-/// The names and the indexes of the instance that the other keywords of a schema object evaluated (JSON Schema 2020-12
-/// Core, 11), in any order.
-#[derive(Clone, Copy)]
-pub struct Evaluated<'s, 'a> {
-    /// The names.
-    pub names: &'s [Name<'a>],
-    /// The indexes.
-    pub indexes: &'s [usize],
 }
 
 /// What the keywords of a schema object said that are used before another of it (JSON Schema 2020-12 Core, 7.1).

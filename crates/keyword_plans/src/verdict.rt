@@ -9,14 +9,15 @@ ghost use Rattle.definitions.specs.Applied.{Application, Outcome, beside, contai
 ghost use Rattle.definitions.specs.Evaluated.{contains_holds, keyword_passes, needs_none, pass_count, pattern_holds};
 ghost use Rattle.json_doc.specs.Docs.{value};
 ghost use Rattle.keywords.specs.Rows.{row_of};
-ghost use Rattle.keyword_plans.specs.Plans.{counts_contained, outcomes_of};
+ghost use Rattle.applicators.specs.Plans.{outcomes_of};
+ghost use Rattle.keyword_plans.specs.Plans.{counts_contained};
 ghost use Rattle.keyword_plans.specs.SearchedIn.{searched_in};
 ghost use Rattle.keyword_plans.specs.Sites.{Shows, linked_rules};
-ghost use Rattle.keyword_plans.specs.Subjects.{subject_value};
+ghost use Rattle.applicators.specs.Subjects.{subject_value};
 
 use crate::searches::Searches;
 use crate::site::Site;
-use crate::subject::Subject;
+use applicators::Subject;
 use assertions::{Assertion, holds, is_at_least, is_at_most};
 use json_doc::{Doc, Whole};
 use keywords::Keyword;

@@ -10,15 +10,14 @@ ghost use Rattle.json_doc.specs.Docs.{value, members_value};
 ghost use Rattle.json_doc.specs.NamedMembers.{name_text};
 ghost use Rattle.keyword_plans.specs.Applications.{ArePatternsOf, planned_matches, planned_pattern};
 ghost use Rattle.keyword_plans.specs.NumberedPatterns.{IsNumbered, numbered_view};
-ghost use Rattle.keyword_plans.specs.Plans.{planned_view};
+ghost use Rattle.applicators.specs.Plans.{planned_view};
 ghost use Rattle.keyword_plans.specs.SearchedIn.{searched_in};
 ghost use Rattle.keyword_plans.specs.Sites.{Shows};
 
 use crate::numbered_pattern::{NumberedPattern, push_numbered};
-use crate::planned::{Part, Planned, Way};
 use crate::searches::Searches;
 use crate::site::Site;
-use crate::subject::{Subject, members_of};
+use applicators::{Part, Planned, Subject, Way, members_of};
 use json_doc::{Doc, Members, Name};
 use std::alloc::AllocError;
 

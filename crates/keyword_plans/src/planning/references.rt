@@ -10,15 +10,14 @@ ghost use Rattle.linker.specs.LinkedDocuments.{linked_schemas};
 ghost use Rattle.keyword_plans.specs.Followed.{target_view};
 ghost use Rattle.keyword_plans.specs.LinkedResources.{HasResources};
 ghost use Rattle.keyword_plans.specs.ScopeViews.{scope_documents, scope_uris};
-ghost use Rattle.keyword_plans.specs.Plans.{planned_view};
+ghost use Rattle.applicators.specs.Plans.{planned_view};
 ghost use Rattle.keyword_plans.specs.Sites.{Shows};
-ghost use Rattle.keyword_plans.specs.Subjects.{subject_value};
+ghost use Rattle.applicators.specs.Subjects.{subject_value};
 
 use crate::dynamic_scope::DynamicScope;
-use crate::planned::{Part, Planned, Way};
 use crate::site::Site;
-use crate::subject::Subject;
 use crate::target::Target;
+use applicators::{Part, Planned, Subject, Way};
 use json_doc::Doc;
 use std::alloc::AllocError;
 

@@ -6,7 +6,7 @@ use Rattle.evaluation_context.specs.Frames.{frame_standing}
 use Rattle.evaluator.specs.Annotations.{annotations_among}
 use Rattle.evaluator.specs.Logs.{log_view}
 use Rattle.evaluator.specs.Notes.{notes_of_both}
-use Rattle.keyword_plans.specs.Subjects.{subject_value}
+use Rattle.applicators.specs.Subjects.{subject_value}
 use Rattle.evaluator.proofs.AnnotatingLaws.{annotates_there, annotation_here}
 use Rattle.evaluator.proofs.LogLaws.{added_nothing, annotated, annotated_then}
 use Rattle.evaluator.proofs.annotating.note_among.Goals as goal

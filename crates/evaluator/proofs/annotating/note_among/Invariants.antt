@@ -4,7 +4,7 @@ use Rattle.json_doc.specs.Docs.{value}
 use Rattle.json_doc.specs.NamedMembers.{named_left}
 use Rattle.json_doc.specs.Members.{members_left}
 use Rattle.keyword_plans.specs.ScopeViews.{scope_documents}
-use Rattle.keyword_plans.specs.Subjects.{subject_value}
+use Rattle.applicators.specs.Subjects.{subject_value}
 use Rattle.evaluation_context.specs.Frames.{context_view, frame_standing}
 use Rattle.evaluation_context.specs.Standings.{standing_of}
 use Rattle.evaluator.specs.Annotations.{annotations_among}

@@ -4,7 +4,7 @@ use Rattle.std.proofs.lemmas.Result.{on_ok_weaker}
 use Rattle.definitions.specs.Applied.{Application}
 use Rattle.definitions.specs.Outcomes.{Use, other_annotations}
 use Rattle.json_doc.specs.Docs.{value}
-use Rattle.keyword_plans.specs.Subjects.{subject_value}
+use Rattle.applicators.specs.Subjects.{subject_value}
 use Rattle.evaluation_context.specs.Frames.{context_view, frame_standing}
 use Rattle.evaluator.specs.Notes.{Notes, notes_of_both, object_notes}
 use Rattle.evaluator.proofs.CombinedLaws.{failing_object, passing_object, stands_there}

@@ -14,7 +14,7 @@ use Rattle.linker.specs.declared.pattern_numbers.PatternNumber.{PatternNumber}
 use Rattle.keyword_plans.specs.NumberedPatterns.{IsNumbered, numbered_view}
 use Rattle.keyword_plans.specs.SearchedIn.{searched_in}
 use Rattle.keyword_plans.specs.declared.numbered_pattern.NumberedPattern.{NumberedPattern}
-use Rattle.keyword_plans.proofs.Growing.{ended, grown}
+use Rattle.applicators.proofs.Growing.{ended, grown}
 use Rattle.keyword_plans.proofs.Matching.{first_pattern, rest_patterns}
 use Rattle.keyword_plans.proofs.numbered_pattern.push_numbered.Goals as goal
 

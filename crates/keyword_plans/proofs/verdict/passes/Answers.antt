@@ -1,6 +1,6 @@
 use Rattle.json_doc.specs.Docs.{value}
 use Rattle.keywords.specs.Rows.{row_of}
-use Rattle.keyword_plans.specs.Plans.{outcomes_of}
+use Rattle.applicators.specs.Plans.{outcomes_of}
 use Rattle.keyword_plans.specs.Sites.{linked_rules}
 use Rattle.keyword_plans.proofs.Verdicts.{by_count, with_all}
 use Rattle.keyword_plans.proofs.verdict.passes.Goals as goal

@@ -6,7 +6,7 @@ use Rattle.std.proofs.lemmas.Result.{IfOk-weaker, on_ok_weaker}
 use Rattle.json_doc.specs.Docs.{value}
 use Rattle.linker.specs.LinkedDocuments.{linked_schemas}
 use Rattle.basic_output.specs.PointerViews.{origin_view}
-use Rattle.keyword_plans.specs.Plans.{step_view}
+use Rattle.applicators.specs.Plans.{step_view}
 use Rattle.evaluation_context.specs.Frames.{Frame, context_view, frame_standing}
 use Rattle.evaluation_context.specs.Moves.{Onward, standing_at}
 use Rattle.evaluation_context.proofs.FrameLaws.{context_within, onward_at, onward_origin, onward_stepped, onward_onward, origin_below}

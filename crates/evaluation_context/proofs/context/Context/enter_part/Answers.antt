@@ -1,5 +1,5 @@
 use Rattle.std.proofs.Common.{refl, sym, ap, ◌∙◌}
-use Rattle.keyword_plans.specs.Plans.{part_view}
+use Rattle.applicators.specs.Plans.{part_view}
 use Rattle.definitions.specs.Applied.{name_of, named, part_location}
 use Rattle.evaluation_context.specs.Frames.{context_view}
 use Rattle.evaluation_context.specs.Moves.{frame_at}

@@ -2,9 +2,9 @@ use Rattle.std.proofs.Common.{◌≡◌, length, refl, sym, ap, ◌∙◌}
 use Rattle.definitions.specs.Applied.{part_location}
 use Rattle.json_doc.specs.Docs.{value}
 use Rattle.linker.specs.LinkedDocuments.{linked_schemas}
-use Rattle.keyword_plans.specs.Plans.{part_view}
+use Rattle.applicators.specs.Plans.{part_view}
 use Rattle.keyword_plans.specs.ScopeViews.{scope_documents}
-use Rattle.keyword_plans.specs.Subjects.{subject_value}
+use Rattle.applicators.specs.Subjects.{subject_value}
 use Rattle.evaluation_context.specs.Frames.{Frame, context_view, frame_standing}
 use Rattle.evaluation_context.specs.Standings.{Standing}
 use Rattle.evaluation_context.specs.Moves.{Onward}

@@ -1,5 +1,5 @@
 use Rattle.std.proofs.Common.{arith, refl, sym, ap, ◌∙◌}
-use Rattle.keyword_plans.specs.Plans.{step_view}
+use Rattle.applicators.specs.Plans.{step_view}
 use Rattle.evaluation_context.specs.Frames.{context_view}
 use Rattle.evaluation_context.specs.Moves.{frame_below}
 use Rattle.evaluation_context.specs.Runnings.{steps_between}

@@ -3,7 +3,7 @@ use Rattle.std.specs.List.{list_all}
 use Rattle.definitions.specs.Applied.{Application}
 use Rattle.json_doc.specs.Docs.{value}
 use Rattle.keyword_plans.specs.Applications.{named_count}
-use Rattle.keyword_plans.specs.Subjects.{subject_value}
+use Rattle.applicators.specs.Subjects.{subject_value}
 use Rattle.evaluation_context.specs.Frames.{context_view}
 use Rattle.evaluator.specs.Findings.{FindsAll}
 use Rattle.evaluator.specs.Groups.{first_groups}
@@ -11,7 +11,7 @@ use Rattle.evaluator.specs.Logs.{log_view}
 use Rattle.evaluator.specs.Notes.{notes_of_both, uses_notes, parts_notes}
 use Rattle.evaluator.specs.Rounds.{IsAt, groups_uses, IsKnown, IsUnder, part_outcomes}
 use Rattle.keywords.specs.Rows.{row_of}
-use Rattle.keyword_plans.specs.declared.planned.Planned.{Planned}
+use Rattle.applicators.specs.declared.planned.Planned.{Planned}
 use Rattle.evaluator.proofs.applying.Evaluation.+apply.Given as goal
 
 abbrev pub decreases-apply_object : goal.decreases-apply_object

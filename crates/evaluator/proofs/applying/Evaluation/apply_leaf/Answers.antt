@@ -2,7 +2,7 @@ use Rattle.std.proofs.Common.{◌≡◌, ◌∙◌, sym, ap}
 use Rattle.definitions.specs.Applied.{Application, Outcome}
 use Rattle.definitions.specs.Outcomes.{outcome_of_uses}
 use Rattle.json_doc.specs.Docs.{value}
-use Rattle.keyword_plans.specs.Subjects.{subject_value}
+use Rattle.applicators.specs.Subjects.{subject_value}
 use Rattle.evaluation_context.specs.Frames.{Frame, frame_standing}
 use Rattle.evaluation_context.specs.Standings.{application_at}
 use Rattle.evaluator.specs.Groups.{first_groups}

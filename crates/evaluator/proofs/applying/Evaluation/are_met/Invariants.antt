@@ -2,7 +2,7 @@ use Rattle.std.proofs.Common.{◌≡◌, true}
 use Rattle.std.specs.List.{list_all}
 use Rattle.json_doc.specs.Docs.{members_value}
 use Rattle.json_doc.specs.NamedMembers.{named_left}
-use Rattle.keyword_plans.specs.Subjects.{subject_value}
+use Rattle.applicators.specs.Subjects.{subject_value}
 use Rattle.evaluator.specs.Silences.{is_met_alone}
 use Rattle.evaluator.proofs.applying.Evaluation.are_met.Given as goal
 

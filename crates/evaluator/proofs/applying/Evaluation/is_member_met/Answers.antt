@@ -4,7 +4,7 @@ use Rattle.std.proofs.lemmas.Result.{IfOk-weaker}
 use Rattle.assertions.specs.AssertionView.{assertion_view}
 use Rattle.json_doc.specs.Docs.{value}
 use Rattle.json_doc.specs.NamedMembers.{name_text}
-use Rattle.keyword_plans.specs.Subjects.{subject_value}
+use Rattle.applicators.specs.Subjects.{subject_value}
 use Rattle.evaluator.specs.Leaves.{is_leaf_mark}
 use Rattle.evaluator.proofs.LeafLaws.{asserting_keyword}
 use Rattle.evaluator.proofs.MetLaws.{made_met, none_made_met}

@@ -1,8 +1,8 @@
 use Rattle.std.proofs.Common.{◌≡◌, ◌∙◌, Some, true, sym, ap}
 use Rattle.json_doc.specs.Docs.{value}
 use Rattle.json_doc.specs.Kinds.{as_boolean}
-use Rattle.keyword_plans.specs.Plans.{part_view, planned_view}
-use Rattle.keyword_plans.specs.Subjects.{subject_value}
+use Rattle.applicators.specs.Plans.{part_view, planned_view}
+use Rattle.applicators.specs.Subjects.{subject_value}
 use Rattle.evaluator.proofs.PlannedLaws.{schema_value_planned}
 use Rattle.evaluator.proofs.SilenceLaws.{true_silent}
 use Rattle.evaluator.proofs.applying.Evaluation.is_true.Goals as goal

@@ -6,8 +6,8 @@ use Rattle.definitions.specs.Values.{members}
 use Rattle.json_doc.specs.Docs.{members_value, value}
 use Rattle.json_doc.specs.Kinds.{as_boolean}
 use Rattle.json_doc.proofs.Views.{value-Dict}
-use Rattle.keyword_plans.specs.Plans.{part_view, planned_view}
-use Rattle.keyword_plans.specs.Subjects.{subject_value}
+use Rattle.applicators.specs.Plans.{part_view, planned_view}
+use Rattle.applicators.specs.Subjects.{subject_value}
 use Rattle.evaluation_context.specs.Frames.{context_view, frame_standing}
 use Rattle.evaluator.specs.Leaves.{HasLeafMarks, IsLeaf}
 use Rattle.evaluator.specs.Silences.{is_member_met}

@@ -4,7 +4,7 @@ use Rattle.definitions.specs.Keywords.{looks_at_evaluated}
 use Rattle.json_doc.specs.NamedMembers.{name_text}
 use Rattle.json_doc.specs.Docs.{value}
 use Rattle.keywords.specs.Rows.{row_of}
-use Rattle.keyword_plans.specs.Plans.{planned_view}
+use Rattle.applicators.specs.Plans.{planned_view}
 use Rattle.keyword_plans.specs.Sites.{linked_rules}
 use Rattle.evaluation_context.specs.Frames.{context_view, frame_standing}
 use Rattle.evaluator.specs.Logs.{log_view}

@@ -7,7 +7,7 @@ use Rattle.definitions.specs.Outcomes.{Use}
 use Rattle.json_doc.specs.Docs.{value}
 use Rattle.keywords.specs.declared.group.Group.TheVariants.{One}
 use Rattle.keywords.specs.declared.keyword.Keyword.TheVariants.{Ref}
-use Rattle.keyword_plans.specs.Subjects.{subject_value}
+use Rattle.applicators.specs.Subjects.{subject_value}
 use Rattle.linker.specs.declared.linked.Linked.{Linked}
 use Rattle.evaluation_context.specs.Frames.{context_view}
 use Rattle.evaluator.specs.Groups.{asserts_alone, first_groups}

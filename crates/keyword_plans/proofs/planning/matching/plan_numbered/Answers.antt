@@ -4,8 +4,8 @@ use Rattle.json_doc.specs.NamedMembers.{named_left}
 use Rattle.linker.specs.declared.linked.Linked.{Linked}
 use Rattle.keyword_plans.specs.Applications.{planned_pattern}
 use Rattle.keyword_plans.specs.NumberedPatterns.{IsNumbered, numbered_view}
-use Rattle.keyword_plans.specs.Plans.{planned_view}
-use Rattle.keyword_plans.proofs.Growing.{grown, ended}
+use Rattle.applicators.specs.Plans.{planned_view}
+use Rattle.applicators.proofs.Growing.{grown, ended}
 use Rattle.keyword_plans.proofs.planning.matching.plan_numbered.Goals as goal
 
 pub loop-name-preserved : goal.loop-name-preserved

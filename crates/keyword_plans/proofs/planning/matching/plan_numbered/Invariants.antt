@@ -6,7 +6,7 @@ use Rattle.json_doc.specs.Docs.{members_value}
 use Rattle.json_doc.specs.NamedMembers.{named_left}
 use Rattle.keyword_plans.specs.Applications.{planned_pattern}
 use Rattle.keyword_plans.specs.NumberedPatterns.{IsNumbered, numbered_view}
-use Rattle.keyword_plans.specs.Plans.{planned_view}
+use Rattle.applicators.specs.Plans.{planned_view}
 use Rattle.keyword_plans.specs.SearchedIn.{searched_in}
 use Rattle.keyword_plans.proofs.planning.matching.plan_numbered.Given as goal
 

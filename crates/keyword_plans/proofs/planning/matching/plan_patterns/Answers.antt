@@ -3,7 +3,7 @@ use Rattle.std.proofs.lemmas.Result.{on_ok_weaker}
 use Rattle.definitions.specs.Values.{members}
 use Rattle.json_doc.specs.Docs.{value}
 use Rattle.keyword_plans.specs.Applications.{ArePatternsOf, planned_pattern}
-use Rattle.keyword_plans.specs.Plans.{planned_view}
+use Rattle.applicators.specs.Plans.{planned_view}
 use Rattle.json_doc.specs.Docs.{members_value}
 use Rattle.keyword_plans.proofs.Matching.{same_patterns}
 use Rattle.keyword_plans.proofs.Patterns.{site_patterns, matched-none}

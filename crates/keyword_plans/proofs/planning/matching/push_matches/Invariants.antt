@@ -7,7 +7,7 @@ use Rattle.json_doc.specs.NamedMembers.{name_text}
 use Rattle.keyword_plans.specs.Applications.{planned_matches}
 use Rattle.keyword_plans.specs.NumberedPatterns.{IsNumbered, numbered_view}
 use Rattle.keyword_plans.specs.SearchedIn.{searched_in}
-use Rattle.keyword_plans.specs.Plans.{planned_view}
+use Rattle.applicators.specs.Plans.{planned_view}
 use Rattle.keyword_plans.proofs.planning.matching.push_matches.Given as goal
 
 -- what is planned, and what the patterns that are left add, and the searches stay in their documents

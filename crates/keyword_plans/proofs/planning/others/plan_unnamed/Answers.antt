@@ -8,10 +8,10 @@ use Rattle.json_doc.specs.NamedMembers.{named_view, named_left}
 use Rattle.json_doc.specs.declared.doc.Doc.{Doc}
 use Rattle.json_doc.proofs.Nestings.{in_order_rest}
 use Rattle.keyword_plans.specs.Applications.{planned_unnamed, at_unnamed}
-use Rattle.keyword_plans.specs.Plans.{planned_view}
-use Rattle.keyword_plans.proofs.Growing.{grown}
-use Rattle.keyword_plans.proofs.Merging.{first_takes}
-use Rattle.keyword_plans.proofs.Unevaluated.{skipped}
+use Rattle.applicators.specs.Plans.{planned_view}
+use Rattle.applicators.proofs.Growing.{grown}
+use Rattle.applicators.proofs.Merging.{first_takes}
+use Rattle.applicators.proofs.Unevaluated.{skipped}
 use Rattle.keyword_plans.proofs.planning.others.plan_unnamed.Goals as goal
 
 -- at a member that takes this schema, or none

@@ -5,7 +5,7 @@ use Rattle.json_doc.specs.Docs.{value, members_value}
 use Rattle.json_doc.specs.Members.{HasNamesInOrder}
 use Rattle.json_doc.specs.NamedMembers.{named_left}
 use Rattle.keyword_plans.specs.Applications.{planned_unnamed}
-use Rattle.keyword_plans.specs.Plans.{planned_view}
+use Rattle.applicators.specs.Plans.{planned_view}
 use Rattle.keyword_plans.proofs.planning.others.plan_unnamed.Given as goal
 
 -- what is planned, and what the members that are left add

@@ -4,10 +4,10 @@ use Rattle.definitions.specs.Applied.{is_taken}
 use Rattle.json_doc.specs.Docs.{value}
 use Rattle.json_doc.specs.NamedMembers.{name_text, named_left}
 use Rattle.keyword_plans.specs.Applications.{planned_others}
-use Rattle.keyword_plans.specs.Plans.{planned_view}
+use Rattle.applicators.specs.Plans.{planned_view}
 use Rattle.keyword_plans.specs.SearchedIn.{searched_in}
 use Rattle.keyword_plans.specs.Sites.{linked_rules}
-use Rattle.keyword_plans.proofs.Growing.{grown}
+use Rattle.applicators.proofs.Growing.{grown}
 use Rattle.keyword_plans.proofs.Taken.{others-here, same_takers, taken-same}
 use Rattle.keyword_plans.proofs.planning.others.push_untaken.Goals as goal
 

@@ -5,7 +5,7 @@ use Rattle.json_doc.specs.Docs.{value, members_value}
 use Rattle.json_doc.specs.NamedMembers.{named_left}
 use Rattle.keyword_plans.specs.Applications.{planned_others}
 use Rattle.keyword_plans.specs.Beside.{AreTakers}
-use Rattle.keyword_plans.specs.Plans.{planned_view}
+use Rattle.applicators.specs.Plans.{planned_view}
 use Rattle.keyword_plans.specs.SearchedIn.{searched_in}
 use Rattle.keyword_plans.proofs.planning.others.push_untaken.Given as goal
 

@@ -2,7 +2,7 @@
 use Rattle.std.proofs.Common.{◌≡◌, ◌∙◌, sym, ap, subst, refl, arith, true, false, IfOk, OnOk, Some, None}
 use Rattle.definitions.specs.Applied.{Outcome, application_within, Application}
 use Rattle.json_doc.specs.Docs.{value}
-use Rattle.keyword_plans.specs.Subjects.{subject_value}
+use Rattle.applicators.specs.Subjects.{subject_value}
 use Rattle.evaluation_context.specs.Frames.{Frame, context_view, frame_standing}
 use Rattle.evaluation_context.specs.Standings.{application_at}
 use Rattle.evaluator.specs.Logs.{log_view}

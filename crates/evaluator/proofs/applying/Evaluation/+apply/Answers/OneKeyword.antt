@@ -4,7 +4,7 @@ use Rattle.definitions.specs.Applied.{Application, Part}
 use Rattle.definitions.specs.Values.{text_at}
 use Rattle.json_doc.specs.Docs.{value}
 use Rattle.keyword_plans.specs.ScopeViews.{scope_documents}
-use Rattle.keyword_plans.specs.Subjects.{subject_value}
+use Rattle.applicators.specs.Subjects.{subject_value}
 use Rattle.evaluation_context.specs.Frames.{context_view, frame_standing}
 use Rattle.evaluation_context.specs.Returns.{CameFrom}
 use Rattle.evaluation_context.specs.Standings.{at_keyword}
@@ -20,10 +20,10 @@ use Rattle.std.proofs.lemmas.Result.{IfErr-weaker, on_ok_weaker}
 use Rattle.evaluator.proofs.LogLaws.{added_nothing}
 use Rattle.keywords.specs.Rows.{row_of}
 use Rattle.definitions.specs.Evaluated.{pass_count}
-use Rattle.keyword_plans.specs.declared.planned.Planned.{Planned}
+use Rattle.applicators.specs.declared.planned.Planned.{Planned}
 use Rattle.evaluator.proofs.SettlingLaws.{at_keyword_of, planned_known, planned_outcomes, use_over, use_passing, use_valid}
 use Rattle.evaluator.proofs.PlannedLaws.{none_found, passing_within, child_more, child_noted, child_over, planned_at}
-use Rattle.keyword_plans.specs.Plans.{planned_view}
+use Rattle.applicators.specs.Plans.{planned_view}
 use Rattle.evaluator.proofs.applying.Evaluation.+apply.Goals as goal
 
 pub use_keyword-returns-in-Ok-clause-valid : goal.use_keyword-returns-in-Ok-clause-valid

@@ -1,0 +1,9 @@
+pub mod Listed
+pub mod Consequences
+pub mod Growing
+pub mod Merging
+pub mod SharedNames
+pub mod Seen
+pub mod Unevaluated
+pub mod Once
+pub mod Annotated

@@ -11,5 +11,5 @@ invariant-loop-reply l = record {
   few : l.count ≤ length l.yielded;
   counted : l.count ≡ answered_count (map reply_view l.yielded);
   left : into_iter_len l.reply-iterator ≡ length (into_iter_items l.reply-iterator);
-  same : hub_view l.hub.new ≡ hub_view l.hub.old;
+  same : hub_view l.hub ≡ hub_view l.initial.hub;
 }

@@ -21,6 +21,11 @@ impl Units {
         }
     }
 
+    /// Room for the units with a comma between each two, told without a look at them. No text depends on it.
+    pub fn joined_room(&self) -> usize {
+        self.text().len().saturating_add(self.order().len())
+    }
+
     /// Appends the units, with a comma between each two. After want of memory the first of them may stand there.
     pub fn write_joined(&self, out: &mut String) -> Result<(), AllocError>
         ensures { OnOk result

@@ -13,6 +13,9 @@ use basic_output::Units;
 use faults::Fault;
 use std::alloc::{AllocError, Global};
 
+/// What stands around the units, at most.
+const FRAME: usize = 32;
+
 /// The basic output of an instance, before its text is put together. The units are the annotations of a valid instance, or
 /// the errors of another.
 ///
@@ -69,7 +72,7 @@ impl Output {
     pub fn text(&self, alloc: Global) -> Result<String, AllocError>
         ensures { IfOk result (λ s. string_bytes s ≡ (output_view self.now).1) }
     {
-        let mut out = String::with_capacity(alloc, self.text_len())?;
+        let mut out = String::with_capacity(alloc, room_of(self.units.counted(self.valid)))?;
         self.write(&mut out)?;
         Ok(out)
     }
@@ -85,9 +88,14 @@ pub fn output_text(alloc: Global, valid: bool, units: &Units) -> Result<String, 
         → IfOk result (λ s. string_bytes s ≡ output_text o) }
     ensures room { IfErr result (λ f. f ≡ Fault.NoRoom) }
 {
-    let mut out = String::with_capacity(alloc, text_len(valid, units))?;
+    let mut out = String::with_capacity(alloc, room_of(units))?;
     write_text(valid, units, &mut out)?;
     Ok(out)
+}
+
+// Room for the text of the output: to count it would take longer than to write it into too much room.
+fn room_of(units: &Units) -> usize {
+    units.joined_room().saturating_add(FRAME)
 }
 
 // How many bytes the text of the output has.

@@ -213,14 +213,32 @@ def whole_too_long(program):
         return None if 0.9 < took < 3 else f"it ended after {took:.1f} s"
 
 
+def resident(server):
+    """The memory that the server's process takes, in kB."""
+    status = Path(f"/proc/{server.process.pid}/status").read_text()
+    return int(re.search(r"VmRSS:\s+(\d+) kB", status).group(1))
+
+
+def comes_true(condition):
+    """Whether the condition holds within SECONDS."""
+    end = time.monotonic() + SECONDS
+    while not condition():
+        if time.monotonic() > end:
+            return False
+        time.sleep(0.05)
+    return True
+
+
 def memory_is_taken(program):
     """While all others together keep more than `--memory`, a client isn't read; it is answered once they are gone."""
     with Server(program, "--memory", "1048576") as server, server.client() as last:
         part = put("urn:large", b" " * 1_000_000)[:-1]
         held = [server.client() for _ in range(2)]
+        before = resident(server)
         for client in held:
             client.sendall(part)
-        time.sleep(0.5)
+        if not comes_true(lambda: resident(server) > before + 1_900):
+            return f"the others keep {resident(server) - before} kB, of 2,000,000 bytes"
         last.sendall(asked())
         last.settimeout(1)
         try:
@@ -246,9 +264,8 @@ def room_is_given_back(program):
                 answer += client.recv(65_536)
             if not answer.startswith(b"HTTP/1.1 20"):
                 return f"a put is answered by {answer[:80]!r}"
-        status = Path(f"/proc/{server.process.pid}/status").read_text()
-        resident = int(re.search(r"VmRSS:\s+(\d+) kB", status).group(1))
-        return None if resident < 15_000 else f"200 idle clients take {resident} kB"
+        is_small = comes_true(lambda: resident(server) < 15_000)
+        return None if is_small else f"200 idle clients take {resident(server)} kB"
 
 
 def logs_requests(program):

@@ -3,6 +3,7 @@ pub mod LogLaws
 pub mod OutcomeLaws
 pub mod PlannedLaws
 pub mod UseLaws
+pub mod TurnLaws
 pub mod AloneLaws
 pub mod BesideLaws
 pub mod ReportLaws

@@ -27,6 +27,7 @@ use Rattle.keywords.specs.declared.keyword.Keyword.TheVariants.{PatternPropertie
 use Rattle.applicators.specs.declared.planned.Planned.{Planned}
 use Rattle.evaluation_context.specs.Frames.{Frame, frame_standing}
 use Rattle.evaluation_context.specs.Standings.{at_keyword, standing_of, unit_there}
+use Rattle.evaluator.specs.Applying.{IsPlan}
 use Rattle.evaluator.specs.Findings.{FindsAll, passing_first}
 use Rattle.evaluator.specs.Tallies.{Tally, parts_tally, uses_tally}
 use Rattle.evaluator.specs.declared.applied.Applied.{Applied}
@@ -102,12 +103,12 @@ names_of_others PatternProperties ns other = absurd (other refl)
 names_of_others _ ns other = refl
 
 -- ---- what is planned is what the definitions apply
-pub planned_outcomes : (l : Linked) (left : ℕ) (k : Text) (a : Application) (ps : List Planned)
+planned_outcomes : (l : Linked) (left : ℕ) (k : Text) (a : Application) (ps : List Planned)
     → part_outcomes l left k a ps ≡ map (λ e. (e.0, linked_outcome l left e.1)) (map (planned_view k a) ps)
 planned_outcomes l left k a [] = refl
 planned_outcomes l left k a (p ∷ ps) = ap (λ os. (let e = planned_view k a p in (e.0, linked_outcome l left e.1)) ∷ os) (planned_outcomes l left k a ps)
 
-pub planned_known : (l : Linked) (left : ℕ) (keyword : Keyword) (a : Application) (ps : List Planned) (names : List Text) (indexes : List ℕ) (v : Value)
+planned_known : (l : Linked) (left : ℕ) (keyword : Keyword) (a : Application) (ps : List Planned) (names : List Text) (indexes : List ℕ) (v : Value)
     → Contains (linked_schemas l) a.schema → HasResources l a.scope → get (row_of keyword).name a.schema.value ≡ Some v
     → map (planned_view (row_of keyword).name a) ps ≡ keyword_applications (linked_rules l) (linked_outcome l left) names indexes a (row_of keyword).name (row_of keyword).meaning v
     → (p : Planned) → Contains ps p → IsKnown l (row_of keyword).name a p
@@ -122,6 +123,15 @@ planned_known l left keyword a ps names indexes v inside scope found same p here
           applied_schemas_are_known (linked_rules l) (linked_documents l) refl (linked_outcome l left) names indexes a (row_of keyword) v e (row_in keyword) inside found
           (subst (λ es. Contains es e) same there);
     }
+
+pub plan_of : (l : Linked) (left : ℕ) (keyword : Keyword) (a : Application) (ps : List Planned) (names : List Text) (indexes : List ℕ) (v : Value)
+    → Contains (linked_schemas l) a.schema → HasResources l a.scope → get (row_of keyword).name a.schema.value ≡ Some v
+    → map (planned_view (row_of keyword).name a) ps ≡ keyword_applications (linked_rules l) (linked_outcome l left) names indexes a (row_of keyword).name (row_of keyword).meaning v
+    → IsPlan l left a keyword (use_there l left a keyword names indexes v) ps
+plan_of l left keyword a ps names indexes v inside scope found same = record {
+  known = planned_known l left keyword a ps names indexes v inside scope found same;
+  outcomes = planned_outcomes l left (row_of keyword).name a ps ∙ ap (map (λ (e : Part × Application). (e.0, linked_outcome l left e.1))) same;
+}
 
 -- ---- one use
 pub use_valid : (b : Bool) (u : Use) → b ≡ u.passes → b ≡ list_all (λ u. u.passes) (u ∷ [])

@@ -1,5 +1,5 @@
 -- Laws of the uses of keywords, so far and one group more.
-use Rattle.std.proofs.Common.{◌≡◌, ℕ, zero, suc, ◌+◌, ◌<◌, List, [], ◌∷◌, ◌++◌, length, Bool, true, ◌&&◌, refl, sym, ap, ap₂, ◌∙◌, arith, append-nil, take, drop, get_or, flat_map, subst, Bor}
+use Rattle.std.proofs.Common.{◌≡◌, ℕ, zero, suc, ◌+◌, ◌<◌, List, [], ◌∷◌, ◌++◌, length, Bool, true, ◌&&◌, refl, sym, ap, ap₂, ◌∙◌, arith, append-nil, take, get_or, flat_map, subst, Bor}
 use Rattle.std.specs.List.{list_all}
 use Rattle.std.proofs.lemmas.List.{take_more}
 use Rattle.std.proofs.lemmas.Grind.{flat_map-append}
@@ -17,7 +17,6 @@ use Rattle.keywords.specs.Groups.{group_number, groups_before, in_order}
 use Rattle.evaluator.specs.Notes.{IsOver, Notes, error_texts, kept_annotations, notes_of_both, uses_notes}
 use Rattle.evaluator.proofs.LogLaws.{added_twice, first_over, same_notes, same_tallies, then_over}
 use Rattle.evaluator.specs.Tallies.{tally_of_both, uses_tally}
-use Rattle.evaluator.proofs.PlannedLaws.{split_at}
 
 pub all_at : {X : Type 0} (p : X → Bool) (xs : List X) (i : ℕ) (d : X) → list_all p xs ≡ true → i < length xs → p (get_or xs i d) ≡ true
 all_at p [] i d all h = absurd (omega arith)
@@ -76,27 +75,3 @@ pub group_noted : {X : Type 0} (a : Application) (older old new : Notes) (uses :
 group_noted a older old new uses xs i d less e f =
     f ∙ ap (λ n. notes_of_both n (uses_notes a (uses (get_or xs i d)))) e ∙ added_twice older (uses_notes a (flat_map uses (take i xs))) (uses_notes a (uses (get_or xs i d)))
     ∙ ap (notes_of_both older) (uses_more_notes a (flat_map uses (take i xs)) (uses (get_or xs i d)) ∙ ap (uses_notes a) (sym (flat_more uses xs i d less)))
-
-pub group_over : {X : Type 0} (a : Application) (older old : Notes) (uses : X → List Use) (xs : List X) (i : ℕ) (d : X) → i < length xs
-    → old ≡ notes_of_both older (uses_notes a (flat_map uses (take i xs))) → IsOver old (uses_notes a (uses (get_or xs i d))) → IsOver older (uses_notes a (flat_map uses xs))
-group_over a older old uses xs i d less e over =
-    let us = flat_map uses (take i xs) in
-    let vs = uses (get_or xs i d) in
-    let ws = flat_map uses (drop (i + 1) xs) in
-    let same : us ++ (vs ++ ws) ≡ flat_map uses xs = sym (flat_map-append uses (take i xs) (get_or xs i d ∷ drop (i + 1) xs)) ∙ ap (flat_map uses) (split_at xs i d less) in
-    subst (λ ys. IsOver older (uses_notes a ys)) same (uses_then_over a older old us (vs ++ ws) e (uses_first_over a old vs ws over))
-
--- ---- two uses, one after the other
-pub two_noted : (a : Application) (n mid new : Notes) (us : List Use) (uses : Notes → List Use) → mid ≡ notes_of_both n (uses_notes a us) → new ≡ notes_of_both mid (uses_notes a (uses mid))
-    → new ≡ notes_of_both n (uses_notes a (us ++ uses (notes_of_both n (uses_notes a us))))
-two_noted a n mid new us uses e f =
-    f ∙ ap (λ m. notes_of_both m (uses_notes a (uses m))) e ∙ added_twice n (uses_notes a us) (uses_notes a (uses (notes_of_both n (uses_notes a us))))
-    ∙ ap (notes_of_both n) (uses_more_notes a us (uses (notes_of_both n (uses_notes a us))))
-
-pub two_valid : (a : Application) (n mid : Notes) (p q : Bool) (us : List Use) (uses : Notes → List Use) → mid ≡ notes_of_both n (uses_notes a us) → p ≡ list_all (λ u. u.passes) us
-    → q ≡ list_all (λ u. u.passes) (uses mid) → (p && q) ≡ list_all (λ u. u.passes) (us ++ uses (notes_of_both n (uses_notes a us)))
-two_valid a n mid p q us uses e f g = both_valid p q us (uses mid) f g ∙ ap (λ m. list_all (λ (u : Use). u.passes) (us ++ uses m)) e
-
-pub two_over : (a : Application) (n mid : Notes) (us : List Use) (uses : Notes → List Use) → mid ≡ notes_of_both n (uses_notes a us) → IsOver mid (uses_notes a (uses mid))
-    → IsOver n (uses_notes a (us ++ uses (notes_of_both n (uses_notes a us))))
-two_over a n mid us uses e h = subst (λ m. IsOver n (uses_notes a (us ++ uses m))) e (uses_then_over a n mid us (uses mid) e h)

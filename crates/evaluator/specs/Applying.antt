@@ -1,8 +1,10 @@
 -- What the contracts of an evaluation under way say.
-use Rattle.std.specs.Prelude.{◌≡◌, ◌≢◌, ℕ, List, Contains}
-use Rattle.definitions.specs.Values.{Text}
-use Rattle.definitions.specs.Applied.{Application, Outcome}
-use Rattle.definitions.specs.Outcomes.{object_outcome}
+use Rattle.std.specs.Prelude.{◌≡◌, ◌≢◌, ℕ, Bool, List, Result, Some, Contains, IfErr, IfOk, OnOk}
+use Rattle.std.specs.List.{list_all}
+use Rattle.definitions.specs.Values.{Text, Value, get}
+use Rattle.definitions.specs.Applied.{Application, Outcome, Part}
+use Rattle.definitions.specs.Keywords.{Meaning}
+use Rattle.definitions.specs.Outcomes.{Use, object_outcome}
 use Rattle.faults.specs.declared.Fault as code
 use Rattle.json_doc.specs.Docs.{value}
 use Rattle.json_doc.specs.declared.doc.Doc.{Doc}
@@ -12,10 +14,15 @@ use Rattle.applicators.specs.Subjects.{subject_value}
 use Rattle.applicators.specs.declared.planned.Planned.{Planned}
 use Rattle.applicators.specs.declared.subject.Subject.{Subject}
 use Rattle.evaluation_context.specs.Frames.{context_view}
+use Rattle.keywords.specs.Rows.{row_of}
+use Rattle.keywords.specs.declared.keyword.Keyword.{Keyword}
+use Rattle.evaluator.specs.Findings.{FindsAll, Outcomes}
 use Rattle.evaluator.specs.Logs.{log_view}
-use Rattle.evaluator.specs.Notes.{IsOver, Notes, notes_of_both}
-use Rattle.evaluator.specs.Rounds.{IsAt, IsKnown, linked_outcome}
+use Rattle.evaluator.specs.Notes.{IsOver, Notes, notes_of_both, outcome_notes, part_notes, parts_notes, uses_notes}
+use Rattle.evaluator.specs.Rounds.{IsAt, IsKnown, Knows, indexes_since, linked_outcome, names_since, part_outcomes, two_uses, use_there, uses_since}
+use Rattle.evaluator.specs.declared.applied.Applied.{Applied}
 use Rattle.evaluator.specs.declared.applying.Evaluation.{Evaluation}
+use Rattle.evaluator.specs.declared.beside.Beside.{Beside}
 use Rattle.evaluator.specs.declared.halt.Halt.{Halt}
 use Rattle.evaluator.specs.declared.halt.Halt.TheVariants.{Costly, NoRoom}
 use Rattle.evaluator.specs.declared.here.Here.{Here}
@@ -52,3 +59,61 @@ AreKnown l k a ps = (p : Planned) → Contains ps p → IsKnown l k a p
 -- of a schema object, by the linked documents, where so many applications may nest in it
 abbrev pub object_said : Linked → ℕ → Application → Outcome
 object_said l left a = object_outcome (linked_rules l) (linked_outcome l left) a
+
+-- ---- what an evaluation comes to
+-- the linked documents stay, and unless it halts, so does where it stands
+pub record Stays {A : Type 0} (older newer : Evaluation) (r : Result A Halt) : Type 0 where
+  pub linked : newer.linked ≡ older.linked
+  pub back : OnOk r (context_view newer.context ≡ context_view older.context)
+
+-- nothing more is noted, and it stands where it stood
+pub record IsUntouched (older newer : Evaluation) : Type 0 where
+  pub linked : newer.linked ≡ older.linked
+  pub context : newer.context ≡ older.context
+  pub log : newer.log ≡ older.log
+
+-- it finds this, and notes that; or it halts since that would be more applications than there may be
+pub record EndsWith {A : Type 0} (older newer : Evaluation) (r : Result A Halt) (Finds : A → Type 0) (notes : Notes) : Type 0 where
+  pub found : IfOk r Finds
+  pub noted : OnOk r (Adds older newer notes)
+  pub err : IfErr r (λ h. IsCostly h older notes)
+
+-- whether an application passes
+abbrev pub HasOutcome : Evaluation → Evaluation → Result Bool Halt → Outcome → Type 0
+HasOutcome older newer r o = EndsWith older newer r (λ b. b ≡ o.valid) (outcome_notes o)
+
+-- whether all uses of keywords of an application's schema pass
+abbrev pub HasUses : Evaluation → Evaluation → Result Bool Halt → Application → List Use → Type 0
+HasUses older newer r a us = EndsWith older newer r (λ b. b ≡ list_all (λ u. u.passes) us) (uses_notes a us)
+
+-- whether what a keyword of this meaning applied to a part of the instance passes
+abbrev pub HasPart : Evaluation → Evaluation → Result Bool Halt → Meaning → Part × Outcome → Type 0
+HasPart older newer r meaning e = EndsWith older newer r (λ b. b ≡ e.1.valid) (part_notes meaning e)
+
+-- how much passes of all that it applied
+abbrev pub HasParts : Evaluation → Evaluation → Result Applied Halt → Meaning → Outcomes → Type 0
+HasParts older newer r meaning os = EndsWith older newer r (λ f. FindsAll f os) (parts_notes meaning os)
+
+-- ---- a keyword that is used
+-- it has this value in the schema that is applied here, and it is known what the keywords beside said
+pub record IsUsed (e : Evaluation) (h : Here) (keyword : Keyword) (v : Value) (beside : Beside) (left : ℕ) (a : Application) : Type 0 where
+  pub here : IsHere e h a
+  pub knows : Knows e.linked.now left a (row_of keyword).meaning beside
+  pub valued : get (row_of keyword).name a.schema.value ≡ Some v
+
+-- its use, by what was evaluated since the schema object was entered
+abbrev pub use_here : Evaluation → Here → Keyword → Value → ℕ → Application → Use
+use_here e h keyword v left a = use_there e.linked.now left a keyword (names_since h.before (log_view e.log)) (indexes_since h.before (log_view e.log)) v
+
+-- its uses, where the schema has it
+abbrev pub uses_here : Evaluation → Here → Keyword → ℕ → Application → List Use
+uses_here e h keyword left a = uses_since e.linked.now left a keyword h.before (log_view e.log)
+
+-- and those of another keyword after it
+abbrev pub two_uses_here : Evaluation → Here → Keyword → Keyword → ℕ → Application → List Use
+two_uses_here e h first second left a = two_uses e.linked.now left a first second h.before (log_view e.log)
+
+-- these are the applications of a use of the keyword, and their schemas are all linked
+pub record IsPlan (l : Linked) (left : ℕ) (a : Application) (keyword : Keyword) (u : Use) (ps : List Planned) : Type 0 where
+  pub known : AreKnown l (row_of keyword).name a ps
+  pub outcomes : part_outcomes l left (row_of keyword).name a ps ≡ u.outcomes

@@ -56,7 +56,7 @@ impl<'a> Evaluation<'a> {
     ghost use Rattle.json_doc.specs.Kinds.{as_boolean};
     ghost use Rattle.evaluation_context.specs.Frames.{context_view, frame_standing};
     ghost use Rattle.evaluation_context.specs.Standings.{application_at};
-    ghost use Rattle.evaluator.specs.Applying.{Adds, Applies, AppliesToWhole, IsCostly, object_said};
+    ghost use Rattle.evaluator.specs.Applying.{Adds, Applies, AppliesToWhole, HasOutcome, Stays, object_said};
     ghost use Rattle.evaluator.specs.Notes.{outcome_notes};
     ghost use Rattle.evaluator.specs.Rounds.{boolean_at, linked_outcome, root_outcome};
 
@@ -104,16 +104,9 @@ impl<'a> Evaluation<'a> {
     /// Applies the schema, which is the linked resource's root where the evaluation stands there, to the whole instance.
     #[inline(always)]
     pub(crate) fn apply_root(&mut self, schema: &'a Doc, instance: &'a Doc) -> Result<bool, Halt>
-        ensures linked { self.new.linked ≡ self.old.linked }
-        ensures back { OnOk result (context_view self.new.context ≡ context_view self.old.context) }
-        ensures valid { (a : Application) → AppliesToWhole self.old schema.now instance.now a
-            → IfOk result (λ b. b ≡ (root_outcome self.old.linked.now a).valid) }
-        ensures noted { (a : Application) → AppliesToWhole self.old schema.now instance.now a
-            → OnOk result (Adds self.old self.new (outcome_notes
-            (root_outcome self.old.linked.now a))) }
-        ensures err { (a : Application) → AppliesToWhole self.old schema.now instance.now a
-            → IfErr result (λ f. IsCostly f self.old (outcome_notes
-            (root_outcome self.old.linked.now a))) }
+        ensures stays { Stays self.old self.new result }
+        ensures said { (a : Application) → AppliesToWhole self.old schema.now instance.now a
+            → HasOutcome self.old self.new result (root_outcome self.old.linked.now a) }
     {
         let mut positions = [0; KEYWORDS];
         let present = Present::of(schema, &mut positions);
@@ -128,16 +121,9 @@ impl<'a> Evaluation<'a> {
         subject: Subject<'a>,
         nesting: u32,
     ) -> Result<bool, Halt>
-        ensures linked { self.new.linked ≡ self.old.linked }
-        ensures back { OnOk result (context_view self.new.context ≡ context_view self.old.context) }
-        ensures valid { (a : Application) → Applies self.old present.now.schema.now subject.entry a
-            → IfOk result (λ b. b ≡ (linked_outcome self.old.linked.now nesting a).valid) }
-        ensures noted { (a : Application) → Applies self.old present.now.schema.now subject.entry a
-            → OnOk result (Adds self.old self.new (outcome_notes
-            (linked_outcome self.old.linked.now nesting a))) }
-        ensures err { (a : Application) → Applies self.old present.now.schema.now subject.entry a
-            → IfErr result (λ f. IsCostly f self.old (outcome_notes
-            (linked_outcome self.old.linked.now nesting a))) }
+        ensures stays { Stays self.old self.new result }
+        ensures said { (a : Application) → Applies self.old present.now.schema.now subject.entry a
+            → HasOutcome self.old self.new result (linked_outcome self.old.linked.now nesting a) }
     {
         if self.log.is_full() {
             return Err(Halt::Costly);
@@ -151,8 +137,7 @@ impl<'a> Evaluation<'a> {
     /// A boolean schema: `false` has a unit of its own (Core, 4.3.2).
     fn apply_boolean(&mut self, allowed: bool, nesting: u32) -> Result<bool, Halt>
         requires room { self.old.log.count < limits.applications }
-        ensures linked { self.new.linked ≡ self.old.linked }
-        ensures back { OnOk result (context_view self.new.context ≡ context_view self.old.context) }
+        ensures stays { Stays self.old self.new result }
         ensures valid { (a : Application)
             → IfOk result (λ b. b ≡ (boolean_at nesting a allowed).valid) }
         ensures noted { (a : Application) (s x : Value)
@@ -196,16 +181,9 @@ impl<'a> Evaluation<'a> {
     ) -> Result<bool, Halt>
         requires room { self.old.log.count < limits.applications }
         requires other { as_boolean (value present.now.schema.now) ≡ None }
-        ensures linked { self.new.linked ≡ self.old.linked }
-        ensures back { OnOk result (context_view self.new.context ≡ context_view self.old.context) }
-        ensures valid { (a : Application) → Applies self.old present.now.schema.now subject.entry a
-            → IfOk result (λ b. b ≡ (linked_outcome self.old.linked.now nesting a).valid) }
-        ensures noted { (a : Application) → Applies self.old present.now.schema.now subject.entry a
-            → OnOk result (Adds self.old self.new (outcome_notes
-            (linked_outcome self.old.linked.now nesting a))) }
-        ensures err { (a : Application) → Applies self.old present.now.schema.now subject.entry a
-            → IfErr result (λ f. IsCostly f self.old (outcome_notes
-            (linked_outcome self.old.linked.now nesting a))) }
+        ensures stays { Stays self.old self.new result }
+        ensures said { (a : Application) → Applies self.old present.now.schema.now subject.entry a
+            → HasOutcome self.old self.new result (linked_outcome self.old.linked.now nesting a) }
     {
         if self.is_looping(present.schema) {
             self.log.count_loop();
@@ -236,16 +214,9 @@ impl<'a> Evaluation<'a> {
         nesting: u32,
     ) -> Result<bool, Halt>
         requires room { self.old.log.count < limits.applications }
-        ensures linked { self.new.linked ≡ self.old.linked }
-        ensures back { OnOk result (context_view self.new.context ≡ context_view self.old.context) }
-        ensures valid { (a : Application) → Applies self.old present.now.schema.now subject.entry a
-            → IfOk result (λ b. b ≡ (object_said self.old.linked.now nesting a).valid) }
-        ensures noted { (a : Application) → Applies self.old present.now.schema.now subject.entry a
-            → OnOk result (Adds self.old self.new (outcome_notes
-            (object_said self.old.linked.now nesting a))) }
-        ensures err { (a : Application) → Applies self.old present.now.schema.now subject.entry a
-            → IfErr result (λ f. IsCostly f self.old (outcome_notes
-            (object_said self.old.linked.now nesting a))) }
+        ensures stays { Stays self.old self.new result }
+        ensures said { (a : Application) → Applies self.old present.now.schema.now subject.entry a
+            → HasOutcome self.old self.new result (object_said self.old.linked.now nesting a) }
     {
         if present.applies_nothing() {
             return self.apply_leaf(present, subject);

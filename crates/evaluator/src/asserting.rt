@@ -15,7 +15,6 @@ use std::alloc::AllocError;
 
 impl<'a> Evaluation<'a> {
     ghost use Rattle.std.specs.Prelude.{[], ◌∷◌, ◌++◌, ℕ, Some, false, IfOk, IfErr, OnOk, codes};
-    ghost use Rattle.std.specs.List.{list_all};
     ghost use Rattle.assertions.specs.AssertionView.{assertion_in, assertion_view};
     ghost use Rattle.definitions.specs.Assertions.{enum_of, holds};
     ghost use Rattle.definitions.specs.Values.{get, string};
@@ -25,8 +24,8 @@ impl<'a> Evaluation<'a> {
     ghost use Rattle.keywords.specs.declared.group.Group.TheVariants.{One};
     ghost use Rattle.evaluation_context.specs.Frames.{context_view, frame_standing};
     ghost use Rattle.evaluation_context.specs.Standings.{standing_of};
-    ghost use Rattle.evaluator.specs.Applying.{Adds, IsHere};
-    ghost use Rattle.evaluator.specs.Notes.{error_texts, no_notes, uses_notes};
+    ghost use Rattle.evaluator.specs.Applying.{Adds, HasUses, IsHere, IsUntouched, Stays};
+    ghost use Rattle.evaluator.specs.Notes.{error_texts, no_notes};
     ghost use Rattle.evaluator.specs.Rounds.{group_uses};
 
     /// A keyword that makes this assertion: it applies nothing. The only error is want of memory.
@@ -39,14 +38,10 @@ impl<'a> Evaluation<'a> {
     ) -> Result<bool, Halt>
         requires asserts { Some (assertion_view assertion)
             ≡ assertion_in (row_of keyword).meaning }
-        ensures linked { self.new.linked ≡ self.old.linked }
-        ensures back { OnOk result (context_view self.new.context ≡ context_view self.old.context) }
-        ensures valid { (a : Application) (left : ℕ) → IsHere self.old here.now a
-            → IfOk result (λ b. b ≡ list_all (λ u. u.passes)
-            (group_uses self.old.linked.now left a (One keyword))) }
-        ensures noted { (a : Application) (left : ℕ) → IsHere self.old here.now a
-            → OnOk result (Adds self.old self.new
-            (uses_notes a (group_uses self.old.linked.now left a (One keyword)))) }
+        ensures stays { Stays self.old self.new result }
+        ensures said { (a : Application) (left : ℕ) → IsHere self.old here.now a
+            → HasUses self.old self.new result a
+            (group_uses self.old.linked.now left a (One keyword)) }
         ensures err { IfErr result (λ h. h ≡ Halt.NoRoom) }
     {
         match here.present.value(keyword) {
@@ -70,9 +65,7 @@ impl<'a> Evaluation<'a> {
     ) -> Result<bool, AllocError>
         requires asserts { Some (assertion_view assertion)
             ≡ assertion_in (row_of keyword).meaning }
-        ensures linked { self.new.linked ≡ self.old.linked }
-        ensures back { self.new.context ≡ self.old.context }
-        ensures noted { self.new.log ≡ self.old.log }
+        ensures same { IsUntouched self.old self.new }
         ensures met { (a : Application) → IsHere self.old here.now a
             → get (row_of keyword).name a.schema.value ≡ Some (value keyword_value.now)
             → IfOk result (λ b. b
@@ -90,9 +83,7 @@ impl<'a> Evaluation<'a> {
     // want of memory. It is called apart, since few assertions get so far.
     #[inline(never)]
     fn is_one_of(&mut self, values: &Doc, here: &Here<'_, 'a>) -> Result<bool, AllocError>
-        ensures linked { self.new.linked ≡ self.old.linked }
-        ensures back { self.new.context ≡ self.old.context }
-        ensures noted { self.new.log ≡ self.old.log }
+        ensures same { IsUntouched self.old self.new }
         ensures met { (a : Application) → IsHere self.old here.now a
             → get (codes "enum") a.schema.value ≡ Some (value values.now)
             → IfOk result (λ b. b ≡ holds enum_of (value values.now) a.instance) }
@@ -110,8 +101,7 @@ impl<'a> Evaluation<'a> {
     // The keyword isn't met. The only error is want of memory.
     #[inline(never)]
     fn refuse(&mut self, keyword: Keyword) -> Result<bool, Halt>
-        ensures linked { self.new.linked ≡ self.old.linked }
-        ensures back { OnOk result (context_view self.new.context ≡ context_view self.old.context) }
+        ensures stays { Stays self.old self.new result }
         ensures refused { IfOk result (λ b. b ≡ false) }
         ensures noted { (a : Application)
             → frame_standing (context_view self.old.context) ≡ standing_of a

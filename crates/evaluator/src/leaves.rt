@@ -14,15 +14,12 @@ use assertions::Assertion;
 use keywords::Group;
 
 impl<'a> Evaluation<'a> {
-    ghost use Rattle.std.specs.Prelude.{◌<◌, [], ℕ, false, IfOk, IfErr, OnOk};
-    ghost use Rattle.std.specs.List.{list_all};
+    ghost use Rattle.std.specs.Prelude.{◌<◌, [], ℕ, false, IfErr};
     ghost use Rattle.definitions.specs.Applied.{Application};
     ghost use Rattle.definitions.specs.Limits.{limits};
-    ghost use Rattle.evaluation_context.specs.Frames.{context_view};
-    ghost use Rattle.evaluator.specs.Applying.{Adds, Applies, IsHere, object_said};
+    ghost use Rattle.evaluator.specs.Applying.{Applies, HasOutcome, HasUses, IsHere, Stays, object_said};
     ghost use Rattle.evaluator.specs.Groups.{asserts_alone, first_groups};
     ghost use Rattle.evaluator.specs.Leaves.{IsLeaf};
-    ghost use Rattle.evaluator.specs.Notes.{outcome_notes, uses_notes};
     ghost use Rattle.evaluator.specs.Rounds.{group_uses, groups_uses};
 
     /// Such a schema object. Nothing is applied within it, so it takes no place among those that run, nor in the dynamic
@@ -34,15 +31,10 @@ impl<'a> Evaluation<'a> {
     ) -> Result<bool, Halt>
         requires leaf { IsLeaf (value present.now.schema.now) }
         requires room { self.old.log.count < limits.applications }
-        ensures linked { self.new.linked ≡ self.old.linked }
-        ensures back { OnOk result (context_view self.new.context ≡ context_view self.old.context) }
-        ensures valid { (a : Application) (left : ℕ)
+        ensures stays { Stays self.old self.new result }
+        ensures said { (a : Application) (left : ℕ)
             → Applies self.old present.now.schema.now subject.entry a
-            → IfOk result (λ b. b ≡ (object_said self.old.linked.now left a).valid) }
-        ensures noted { (a : Application) (left : ℕ)
-            → Applies self.old present.now.schema.now subject.entry a
-            → OnOk result (Adds self.old self.new (outcome_notes
-            (object_said self.old.linked.now left a))) }
+            → HasOutcome self.old self.new result (object_said self.old.linked.now left a) }
         ensures err { IfErr result (λ h. h ≡ Halt.NoRoom) }
     {
         self.log.count_one();
@@ -66,14 +58,10 @@ impl<'a> Evaluation<'a> {
     // The groups that the object may have, in order: whether all pass. The only error is want of memory.
     fn use_assertions(&mut self, here: &Here<'_, 'a>) -> Result<bool, Halt>
         requires leaf { IsLeaf (value here.now.present.now.schema.now) }
-        ensures linked { self.new.linked ≡ self.old.linked }
-        ensures back { OnOk result (context_view self.new.context ≡ context_view self.old.context) }
-        ensures valid { (a : Application) (left : ℕ) → IsHere self.old here.now a
-            → IfOk result (λ b. b ≡ list_all (λ u. u.passes)
-            (groups_uses self.old.linked.now left a first_groups)) }
-        ensures noted { (a : Application) (left : ℕ) → IsHere self.old here.now a
-            → OnOk result (Adds self.old self.new
-            (uses_notes a (groups_uses self.old.linked.now left a first_groups))) }
+        ensures stays { Stays self.old self.new result }
+        ensures said { (a : Application) (left : ℕ) → IsHere self.old here.now a
+            → HasUses self.old self.new result a
+            (groups_uses self.old.linked.now left a first_groups) }
         ensures err { IfErr result (λ h. h ≡ Halt.NoRoom) }
     {
         let groups = first_groups();
@@ -89,16 +77,10 @@ impl<'a> Evaluation<'a> {
 
     // A group that asserts, or that isn't there: whether it passes. The only error is want of memory.
     fn use_asserting(&mut self, group: Group, here: &Here<'_, 'a>) -> Result<bool, Halt>
-        ensures linked { self.new.linked ≡ self.old.linked }
-        ensures back { OnOk result (context_view self.new.context ≡ context_view self.old.context) }
-        ensures valid { (a : Application) (left : ℕ) → IsHere self.old here.now a
+        ensures stays { Stays self.old self.new result }
+        ensures said { (a : Application) (left : ℕ) → IsHere self.old here.now a
             → (asserts_alone group ≡ false → group_uses self.old.linked.now left a group ≡ [])
-            → IfOk result (λ b. b ≡ list_all (λ u. u.passes)
-            (group_uses self.old.linked.now left a group)) }
-        ensures noted { (a : Application) (left : ℕ) → IsHere self.old here.now a
-            → (asserts_alone group ≡ false → group_uses self.old.linked.now left a group ≡ [])
-            → OnOk result (Adds self.old self.new
-            (uses_notes a (group_uses self.old.linked.now left a group))) }
+            → HasUses self.old self.new result a (group_uses self.old.linked.now left a group) }
         ensures err { IfErr result (λ h. h ≡ Halt.NoRoom) }
     {
         match group {

@@ -1,7 +1,6 @@
 //! The keywords of a schema object, in the order of their evaluation (JSON Schema 2020-12 Core, 10 and 11).
 
 ghost use Rattle.std.specs.Prelude.{◌≡◌};
-ghost use Rattle.json_doc.specs.Docs.{value};
 
 use crate::applying::Evaluation;
 use crate::beside::Beside;
@@ -12,36 +11,25 @@ use assertions::Assertion;
 use keywords::{Group, Keyword};
 
 impl<'a> Evaluation<'a> {
-    ghost use Rattle.std.specs.Prelude.{◌≤◌, ℕ, true, IfOk, IfErr, IfSome, OnOk};
-    ghost use Rattle.std.specs.List.{list_all};
+    ghost use Rattle.std.specs.Prelude.{◌≤◌, ℕ, true, IfSome, OnOk};
     ghost use Rattle.definitions.specs.Applied.{Application};
     ghost use Rattle.keywords.specs.Rows.{row_of};
-    ghost use Rattle.evaluation_context.specs.Frames.{context_view};
-    ghost use Rattle.evaluator.specs.Applying.{Adds, IsCostly, IsHere};
+    ghost use Rattle.evaluator.specs.Applying.{HasUses, IsHere, Stays, two_uses_here, uses_here};
     ghost use Rattle.evaluator.specs.Findings.{passing_first};
     ghost use Rattle.evaluator.specs.Groups.{first_groups, stands_alone};
     ghost use Rattle.keywords.specs.declared.group.Group.TheVariants.{One, Conditional, Counted};
     ghost use Rattle.keywords.specs.declared.keyword.Keyword.TheVariants.{Properties};
     ghost use Rattle.keyword_plans.specs.Applications.{named_count};
     ghost use Rattle.evaluator.specs.Logs.{log_view};
-    ghost use Rattle.evaluator.specs.Notes.{uses_notes};
-    ghost use Rattle.evaluator.specs.Rounds.{Knows, evaluated_in, group_uses, groups_uses, object_uses, two_uses, uses_since};
+    ghost use Rattle.evaluator.specs.Rounds.{Knows, evaluated_in, group_uses, groups_uses, object_uses};
 
     /// All keywords of a schema object, and last those that look at what the others evaluated: whether all pass.
     #[cycle(apply)]
     pub(crate) fn use_keywords(&mut self, here: &Here<'_, 'a>, nesting: u32) -> Result<bool, Halt>
         requires before { here.now.before ≡ evaluated_in (log_view self.old.log) }
-        ensures linked { self.new.linked ≡ self.old.linked }
-        ensures back { OnOk result (context_view self.new.context ≡ context_view self.old.context) }
-        ensures valid { (a : Application) → IsHere self.old here.now a
-            → IfOk result (λ b. b ≡ list_all (λ u. u.passes)
-            (object_uses self.old.linked.now nesting a)) }
-        ensures noted { (a : Application) → IsHere self.old here.now a
-            → OnOk result (Adds self.old self.new
-            (uses_notes a (object_uses self.old.linked.now nesting a))) }
-        ensures err { (a : Application) → IsHere self.old here.now a
-            → IfErr result (λ f. IsCostly f self.old
-            (uses_notes a (object_uses self.old.linked.now nesting a))) }
+        ensures stays { Stays self.old self.new result }
+        ensures said { (a : Application) → IsHere self.old here.now a
+            → HasUses self.old self.new result a (object_uses self.old.linked.now nesting a) }
     {
         match self.use_groups(here, nesting) {
             Ok(valid) => {
@@ -66,17 +54,10 @@ impl<'a> Evaluation<'a> {
     /// The groups of keywords that the schema may have, in order: whether all pass.
     #[cycle(apply)]
     fn use_groups(&mut self, here: &Here<'_, 'a>, nesting: u32) -> Result<bool, Halt>
-        ensures linked { self.new.linked ≡ self.old.linked }
-        ensures back { OnOk result (context_view self.new.context ≡ context_view self.old.context) }
-        ensures valid { (a : Application) → IsHere self.old here.now a
-            → IfOk result (λ b. b ≡ list_all (λ u. u.passes)
-            (groups_uses self.old.linked.now nesting a first_groups)) }
-        ensures noted { (a : Application) → IsHere self.old here.now a
-            → OnOk result (Adds self.old self.new
-            (uses_notes a (groups_uses self.old.linked.now nesting a first_groups))) }
-        ensures err { (a : Application) → IsHere self.old here.now a
-            → IfErr result (λ f. IsCostly f self.old
-            (uses_notes a (groups_uses self.old.linked.now nesting a first_groups))) }
+        ensures stays { Stays self.old self.new result }
+        ensures said { (a : Application) → IsHere self.old here.now a
+            → HasUses self.old self.new result a
+            (groups_uses self.old.linked.now nesting a first_groups) }
     {
         let groups = first_groups();
         let mut valid = true;
@@ -114,20 +95,13 @@ impl<'a> Evaluation<'a> {
         nesting: u32,
     ) -> Result<bool, Halt>
         requires alone { stands_alone group ≡ true }
-        ensures linked { self.new.linked ≡ self.old.linked }
-        ensures back { OnOk result (context_view self.new.context ≡ context_view self.old.context) }
-        ensures valid { (a : Application) → IsHere self.old here.now a
-            → named ≤ named_count a → IfOk result (λ b. b ≡ list_all (λ u. u.passes)
-            (group_uses self.old.linked.now nesting a group)) }
-        ensures passing { (a : Application) → IsHere self.old here.now a
-            → named ≤ named_count a → group ≡ One Properties → OnOk result (self.new.passing
+        ensures stays { Stays self.old self.new result }
+        ensures said { (a : Application) → IsHere self.old here.now a → named ≤ named_count a
+            → HasUses self.old self.new result a (group_uses self.old.linked.now nesting a group) }
+        ensures passing { (a : Application) → IsHere self.old here.now a → named ≤ named_count a
+            → group ≡ One Properties
+            → OnOk result (self.new.passing
             ≡ passing_first (group_uses self.old.linked.now nesting a group)) }
-        ensures noted { (a : Application) → IsHere self.old here.now a
-            → named ≤ named_count a → OnOk result (Adds self.old self.new
-            (uses_notes a (group_uses self.old.linked.now nesting a group))) }
-        ensures err { (a : Application) → IsHere self.old here.now a
-            → named ≤ named_count a → IfErr result (λ f. IsCostly f self.old
-            (uses_notes a (group_uses self.old.linked.now nesting a group))) }
     {
         match group {
             Group::One(keyword) => self.use_one(keyword, here, named, nesting),
@@ -148,20 +122,14 @@ impl<'a> Evaluation<'a> {
         nesting: u32,
     ) -> Result<bool, Halt>
         requires alone { stands_alone (One keyword) ≡ true }
-        ensures linked { self.new.linked ≡ self.old.linked }
-        ensures back { OnOk result (context_view self.new.context ≡ context_view self.old.context) }
-        ensures valid { (a : Application) → IsHere self.old here.now a
-            → named ≤ named_count a → IfOk result (λ b. b ≡ list_all (λ u. u.passes)
-            (group_uses self.old.linked.now nesting a (One keyword))) }
-        ensures passing { (a : Application) → IsHere self.old here.now a
-            → named ≤ named_count a → keyword ≡ Properties → OnOk result (self.new.passing
+        ensures stays { Stays self.old self.new result }
+        ensures said { (a : Application) → IsHere self.old here.now a → named ≤ named_count a
+            → HasUses self.old self.new result a
+            (group_uses self.old.linked.now nesting a (One keyword)) }
+        ensures passing { (a : Application) → IsHere self.old here.now a → named ≤ named_count a
+            → keyword ≡ Properties
+            → OnOk result (self.new.passing
             ≡ passing_first (group_uses self.old.linked.now nesting a (One keyword))) }
-        ensures noted { (a : Application) → IsHere self.old here.now a
-            → named ≤ named_count a → OnOk result (Adds self.old self.new
-            (uses_notes a (group_uses self.old.linked.now nesting a (One keyword)))) }
-        ensures err { (a : Application) → IsHere self.old here.now a
-            → named ≤ named_count a → IfErr result (λ f. IsCostly f self.old
-            (uses_notes a (group_uses self.old.linked.now nesting a (One keyword)))) }
     {
         match Assertion::of(keyword) {
             Some(assertion) => self.use_assertion(keyword, assertion, here),
@@ -172,17 +140,10 @@ impl<'a> Evaluation<'a> {
     /// `if`, and then `then` and `else` (Core, 10.2.2).
     #[cycle(apply)]
     fn use_conditional(&mut self, here: &Here<'_, 'a>, nesting: u32) -> Result<bool, Halt>
-        ensures linked { self.new.linked ≡ self.old.linked }
-        ensures back { OnOk result (context_view self.new.context ≡ context_view self.old.context) }
-        ensures valid { (a : Application) → IsHere self.old here.now a
-            → IfOk result (λ b. b ≡ list_all (λ u. u.passes)
-            (group_uses self.old.linked.now nesting a Conditional)) }
-        ensures noted { (a : Application) → IsHere self.old here.now a
-            → OnOk result (Adds self.old self.new
-            (uses_notes a (group_uses self.old.linked.now nesting a Conditional))) }
-        ensures err { (a : Application) → IsHere self.old here.now a
-            → IfErr result (λ f. IsCostly f self.old
-            (uses_notes a (group_uses self.old.linked.now nesting a Conditional))) }
+        ensures stays { Stays self.old self.new result }
+        ensures said { (a : Application) → IsHere self.old here.now a
+            → HasUses self.old self.new result a
+            (group_uses self.old.linked.now nesting a Conditional) }
     {
         match self.use_named(Keyword::If, here, Beside::nothing(), nesting) {
             Ok(valid) => {
@@ -199,17 +160,10 @@ impl<'a> Evaluation<'a> {
     /// `contains`, and then `minContains` and `maxContains` (Core, 10.3.1.3; Validation, 6.4.4 and 6.4.5).
     #[cycle(apply)]
     fn use_counted(&mut self, here: &Here<'_, 'a>, nesting: u32) -> Result<bool, Halt>
-        ensures linked { self.new.linked ≡ self.old.linked }
-        ensures back { OnOk result (context_view self.new.context ≡ context_view self.old.context) }
-        ensures valid { (a : Application) → IsHere self.old here.now a
-            → IfOk result (λ b. b ≡ list_all (λ u. u.passes)
-            (group_uses self.old.linked.now nesting a Counted)) }
-        ensures noted { (a : Application) → IsHere self.old here.now a
-            → OnOk result (Adds self.old self.new
-            (uses_notes a (group_uses self.old.linked.now nesting a Counted))) }
-        ensures err { (a : Application) → IsHere self.old here.now a
-            → IfErr result (λ f. IsCostly f self.old
-            (uses_notes a (group_uses self.old.linked.now nesting a Counted))) }
+        ensures stays { Stays self.old self.new result }
+        ensures said { (a : Application) → IsHere self.old here.now a
+            → HasUses self.old self.new result a
+            (group_uses self.old.linked.now nesting a Counted) }
     {
         match self.use_named(Keyword::Contains, here, Beside::nothing(), nesting) {
             Ok(valid) => {
@@ -239,26 +193,12 @@ impl<'a> Evaluation<'a> {
         beside: Beside,
         nesting: u32,
     ) -> Result<bool, Halt>
-        ensures linked { self.new.linked ≡ self.old.linked }
-        ensures back { OnOk result (context_view self.new.context ≡ context_view self.old.context) }
-        ensures valid { (a : Application) → IsHere self.old here.now a
+        ensures stays { Stays self.old self.new result }
+        ensures said { (a : Application) → IsHere self.old here.now a
             → Knows self.old.linked.now nesting a (row_of first).meaning beside
             → Knows self.old.linked.now nesting a (row_of second).meaning beside
-            → IfOk result (λ b. b ≡ list_all (λ u. u.passes)
-            (two_uses self.old.linked.now nesting a first second here.now.before
-            (log_view self.old.log))) }
-        ensures noted { (a : Application) → IsHere self.old here.now a
-            → Knows self.old.linked.now nesting a (row_of first).meaning beside
-            → Knows self.old.linked.now nesting a (row_of second).meaning beside
-            → OnOk result (Adds self.old self.new (uses_notes a
-            (two_uses self.old.linked.now nesting a first second here.now.before
-            (log_view self.old.log)))) }
-        ensures err { (a : Application) → IsHere self.old here.now a
-            → Knows self.old.linked.now nesting a (row_of first).meaning beside
-            → Knows self.old.linked.now nesting a (row_of second).meaning beside
-            → IfErr result (λ f. IsCostly f self.old (uses_notes a
-            (two_uses self.old.linked.now nesting a first second here.now.before
-            (log_view self.old.log)))) }
+            → HasUses self.old self.new result a
+            (two_uses_here self.old here.now first second nesting a) }
     {
         match self.use_named(first, here, beside, nesting) {
             Ok(valid) => match self.use_named(second, here, beside, nesting) {
@@ -279,28 +219,14 @@ impl<'a> Evaluation<'a> {
         beside: Beside,
         nesting: u32,
     ) -> Result<bool, Halt>
-        ensures linked { self.new.linked ≡ self.old.linked }
-        ensures back { OnOk result (context_view self.new.context ≡ context_view self.old.context) }
-        ensures valid { (a : Application) → IsHere self.old here.now a
+        ensures stays { Stays self.old self.new result }
+        ensures said { (a : Application) → IsHere self.old here.now a
             → Knows self.old.linked.now nesting a (row_of keyword).meaning beside
-            → IfOk result (λ b. b ≡ list_all (λ u. u.passes)
-            (uses_since self.old.linked.now nesting a keyword here.now.before
-            (log_view self.old.log))) }
+            → HasUses self.old self.new result a (uses_here self.old here.now keyword nesting a) }
         ensures passing { (a : Application) → IsHere self.old here.now a
             → Knows self.old.linked.now nesting a (row_of keyword).meaning beside
             → OnOk result (self.new.passing
-            ≡ passing_first (uses_since self.old.linked.now nesting a keyword here.now.before
-            (log_view self.old.log))) }
-        ensures noted { (a : Application) → IsHere self.old here.now a
-            → Knows self.old.linked.now nesting a (row_of keyword).meaning beside
-            → OnOk result (Adds self.old self.new (uses_notes a
-            (uses_since self.old.linked.now nesting a keyword here.now.before
-            (log_view self.old.log)))) }
-        ensures err { (a : Application) → IsHere self.old here.now a
-            → Knows self.old.linked.now nesting a (row_of keyword).meaning beside
-            → IfErr result (λ f. IsCostly f self.old (uses_notes a
-            (uses_since self.old.linked.now nesting a keyword here.now.before
-            (log_view self.old.log)))) }
+            ≡ passing_first (uses_here self.old here.now keyword nesting a)) }
     {
         match here.present.value(keyword) {
             Some(keyword_value) => {

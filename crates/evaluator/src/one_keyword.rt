@@ -18,22 +18,19 @@ use keywords::{KEYWORDS, Keyword};
 use std::alloc::AllocError;
 
 impl<'a> Evaluation<'a> {
-    ghost use Rattle.std.specs.Prelude.{◌∷◌, [], ℕ, List, Some, IfOk, IfErr, OnOk, length, map};
-    ghost use Rattle.std.specs.List.{list_all};
-    ghost use Rattle.definitions.specs.Values.{Text, get};
+    ghost use Rattle.std.specs.Prelude.{◌∷◌, [], ℕ, List, Some, IfOk, IfErr, OnOk, length};
+    ghost use Rattle.definitions.specs.Values.{Text};
     ghost use Rattle.definitions.specs.Applied.{Application};
-    ghost use Rattle.definitions.specs.Applied as definition;
     ghost use Rattle.definitions.specs.Evaluated.{pass_count};
-    ghost use Rattle.applicators.specs.Plans.{planned_view};
     ghost use Rattle.keywords.specs.Rows.{row_of};
-    ghost use Rattle.keyword_plans.specs.Sites.{linked_rules};
     ghost use Rattle.applicators.specs.Subjects.{subject_value};
     ghost use Rattle.evaluation_context.specs.Frames.{Frame, context_view, keyword_frame};
-    ghost use Rattle.evaluator.specs.Applying.{Adds, AreKnown, IsCostly, IsHere};
+    ghost use Rattle.evaluator.specs.declared.applying.Evaluation.{Evaluation};
+    ghost use Rattle.evaluator.specs.Applying.{Adds, AreKnown, HasOutcome, HasPart, HasParts, HasUses, IsPlan, IsUntouched, IsUsed, Stays, use_here};
     ghost use Rattle.evaluator.specs.Findings.{FindsAll, passing_first};
     ghost use Rattle.evaluator.specs.Logs.{log_view, mark_view};
-    ghost use Rattle.evaluator.specs.Notes.{Notes, lengths, notes_of_both, outcome_notes, part_notes, parts_notes, uses_notes};
-    ghost use Rattle.evaluator.specs.Rounds.{IsAtKeyword, IsKnown, IsUnder, Knows, indexes_since, linked_outcome, names_since, part_outcome, part_outcomes, use_there, uses_with};
+    ghost use Rattle.evaluator.specs.Notes.{lengths, parts_notes};
+    ghost use Rattle.evaluator.specs.Rounds.{IsAtKeyword, IsKnown, IsUnder, part_outcome, part_outcomes, use_there};
 
     /// A keyword with this value: what it applies, and whether it passes.
     #[cycle(apply)]
@@ -45,40 +42,15 @@ impl<'a> Evaluation<'a> {
         beside: Beside,
         nesting: u32,
     ) -> Result<bool, Halt>
-        ensures linked { self.new.linked ≡ self.old.linked }
-        ensures back { OnOk result (context_view self.new.context ≡ context_view self.old.context) }
-        ensures valid { (a : Application) → IsHere self.old here.now a
-            → Knows self.old.linked.now nesting a (row_of keyword).meaning beside
-            → get (row_of keyword).name a.schema.value ≡ Some (value keyword_value.now)
-            → IfOk result (λ b. b ≡ list_all (λ u. u.passes)
-            (uses_with self.old.linked.now nesting a keyword
-            (names_since here.now.before (log_view self.old.log))
-            (indexes_since here.now.before (log_view self.old.log))
-            (Some (value keyword_value.now)))) }
-        ensures passing { (a : Application) → IsHere self.old here.now a
-            → Knows self.old.linked.now nesting a (row_of keyword).meaning beside
-            → get (row_of keyword).name a.schema.value ≡ Some (value keyword_value.now)
+        ensures stays { Stays self.old self.new result }
+        ensures said { (a : Application)
+            → IsUsed self.old here.now keyword (value keyword_value.now) beside nesting a
+            → HasUses self.old self.new result a
+            (use_here self.old here.now keyword (value keyword_value.now) nesting a ∷ []) }
+        ensures passing { (a : Application)
+            → IsUsed self.old here.now keyword (value keyword_value.now) beside nesting a
             → OnOk result (self.new.passing ≡ passing_first
-            (uses_with self.old.linked.now nesting a keyword
-            (names_since here.now.before (log_view self.old.log))
-            (indexes_since here.now.before (log_view self.old.log))
-            (Some (value keyword_value.now)))) }
-        ensures noted { (a : Application) → IsHere self.old here.now a
-            → Knows self.old.linked.now nesting a (row_of keyword).meaning beside
-            → get (row_of keyword).name a.schema.value ≡ Some (value keyword_value.now)
-            → OnOk result (Adds self.old self.new (uses_notes a
-            (uses_with self.old.linked.now nesting a keyword
-            (names_since here.now.before (log_view self.old.log))
-            (indexes_since here.now.before (log_view self.old.log))
-            (Some (value keyword_value.now))))) }
-        ensures err { (a : Application) → IsHere self.old here.now a
-            → Knows self.old.linked.now nesting a (row_of keyword).meaning beside
-            → get (row_of keyword).name a.schema.value ≡ Some (value keyword_value.now)
-            → IfErr result (λ f. IsCostly f self.old (uses_notes a
-            (uses_with self.old.linked.now nesting a keyword
-            (names_since here.now.before (log_view self.old.log))
-            (indexes_since here.now.before (log_view self.old.log))
-            (Some (value keyword_value.now))))) }
+            (use_here self.old here.now keyword (value keyword_value.now) nesting a ∷ [])) }
     {
         let mark = self.log.mark();
         let planned = self.plan_keyword(keyword, keyword_value, here, beside)?;
@@ -103,15 +75,10 @@ impl<'a> Evaluation<'a> {
         ensures linked { self.new.linked ≡ self.old.linked }
         ensures back { context_view self.new.context ≡ context_view self.old.context }
         ensures noted { self.new.log ≡ self.old.log }
-        ensures planned { (a : Application) (left : ℕ) → IsHere self.old here.now a
-            → Knows self.old.linked.now left a (row_of keyword).meaning beside
-            → get (row_of keyword).name a.schema.value ≡ Some (value keyword_value.now)
-            → IfOk result (λ ps. map (planned_view (row_of keyword).name a) ps.items
-            ≡ definition.keyword_applications (linked_rules self.old.linked.now)
-            (linked_outcome self.old.linked.now left)
-            (names_since here.now.before (log_view self.old.log))
-            (indexes_since here.now.before (log_view self.old.log))
-            a (row_of keyword).name (row_of keyword).meaning (value keyword_value.now)) }
+        ensures planned { (a : Application) (left : ℕ)
+            → IsUsed self.old here.now keyword (value keyword_value.now) beside left a
+            → IfOk result (λ ps. IsPlan self.old.linked.now left a keyword
+            (use_here self.old here.now keyword (value keyword_value.now) left a) ps.items) }
     {
         if surely_applies_nothing(keyword, here.subject, beside.named) {
             return Ok(Vec::new(self.alloc));
@@ -156,26 +123,17 @@ impl<'a> Evaluation<'a> {
         ensures back { (older : Frame)
             → context_view self.old.context ≡ keyword_frame (row_of keyword).name older
             → OnOk result (context_view self.new.context ≡ older) }
-        ensures valid { (a : Application) (left : ℕ) (names : List Text) (indexes : List ℕ)
+        ensures said { (a : Application) (left : ℕ) (names : List Text) (indexes : List ℕ)
+            (before : Evaluation)
             → IsAtKeyword self.old.linked.now left (context_view self.old.context)
             (value here.now.present.now.schema.now) (subject_value here.now.subject) keyword
             (value keyword_value.now) beside a
             → let u = use_there self.old.linked.now left a keyword names indexes
             (value keyword_value.now) in
-            FindsAll applied u.outcomes → IfOk result (λ b. b ≡ u.passes) }
+            FindsAll applied u.outcomes → mark_view mark.now ≡ lengths (log_view before.log)
+            → Adds before self.old (parts_notes (row_of keyword).meaning u.outcomes)
+            → HasUses before self.new result a (u ∷ []) }
         ensures passing { OnOk result (self.new.passing ≡ Some applied.passing) }
-        ensures noted { (a : Application) (left : ℕ) (names : List Text) (indexes : List ℕ)
-            (older : Notes)
-            → IsAtKeyword self.old.linked.now left (context_view self.old.context)
-            (value here.now.present.now.schema.now) (subject_value here.now.subject) keyword
-            (value keyword_value.now) beside a
-            → let u = use_there self.old.linked.now left a keyword names indexes
-            (value keyword_value.now) in
-            applied.number ≡ length u.outcomes → applied.passing ≡ pass_count u.outcomes
-            → mark_view mark.now ≡ lengths older
-            → log_view self.old.log ≡ notes_of_both older
-            (parts_notes (row_of keyword).meaning u.outcomes)
-            → OnOk result (log_view self.new.log ≡ notes_of_both older (uses_notes a (u ∷ []))) }
         ensures err { IfErr result (λ h. h ≡ Halt.NoRoom) }
     {
         let passes = self.passes(keyword, keyword_value, here, beside, applied)?;
@@ -202,9 +160,7 @@ impl<'a> Evaluation<'a> {
         beside: Beside,
         applied: Applied,
     ) -> Result<bool, AllocError>
-        ensures linked { self.new.linked ≡ self.old.linked }
-        ensures back { self.new.context ≡ self.old.context }
-        ensures noted { self.new.log ≡ self.old.log }
+        ensures same { IsUntouched self.old self.new }
         ensures passes { (a : Application) (left : ℕ) (names : List Text) (indexes : List ℕ)
             → IsAtKeyword self.old.linked.now left (context_view self.old.context)
             (value here.now.present.now.schema.now) (subject_value here.now.subject) keyword
@@ -239,25 +195,12 @@ impl<'a> Evaluation<'a> {
         planned: &Vec<Planned<'a>>,
         nesting: u32,
     ) -> Result<Applied, Halt>
-        ensures linked { self.new.linked ≡ self.old.linked }
-        ensures back { OnOk result (context_view self.new.context ≡ context_view self.old.context) }
-        ensures found { (a : Application)
+        ensures stays { Stays self.old self.new result }
+        ensures said { (a : Application)
             → IsUnder (context_view self.old.context) (row_of keyword).name a
             → AreKnown self.old.linked.now (row_of keyword).name a planned.now.items
-            → IfOk result (λ f. FindsAll f (part_outcomes self.old.linked.now nesting
-            (row_of keyword).name a planned.now.items)) }
-        ensures noted { (a : Application)
-            → IsUnder (context_view self.old.context) (row_of keyword).name a
-            → AreKnown self.old.linked.now (row_of keyword).name a planned.now.items
-            → OnOk result (Adds self.old self.new (parts_notes (row_of keyword).meaning
-            (part_outcomes self.old.linked.now nesting
-            (row_of keyword).name a planned.now.items))) }
-        ensures err { (a : Application)
-            → IsUnder (context_view self.old.context) (row_of keyword).name a
-            → AreKnown self.old.linked.now (row_of keyword).name a planned.now.items
-            → IfErr result (λ f. IsCostly f self.old (parts_notes (row_of keyword).meaning
-            (part_outcomes self.old.linked.now nesting
-            (row_of keyword).name a planned.now.items))) }
+            → HasParts self.old self.new result (row_of keyword).meaning
+            (part_outcomes self.old.linked.now nesting (row_of keyword).name a planned.now.items) }
     {
         let mut applied = Applied::none();
         for one in planned {
@@ -277,24 +220,12 @@ impl<'a> Evaluation<'a> {
         planned: &Planned<'a>,
         nesting: u32,
     ) -> Result<bool, Halt>
-        ensures linked { self.new.linked ≡ self.old.linked }
-        ensures back { OnOk result (context_view self.new.context ≡ context_view self.old.context) }
-        ensures valid { (a : Application)
+        ensures stays { Stays self.old self.new result }
+        ensures said { (a : Application)
             → IsUnder (context_view self.old.context) (row_of keyword).name a
             → IsKnown self.old.linked.now (row_of keyword).name a planned.now
-            → IfOk result (λ b. b
-            ≡ (part_outcome self.old.linked.now nesting
-            (row_of keyword).name a planned.now).1.valid) }
-        ensures noted { (a : Application)
-            → IsUnder (context_view self.old.context) (row_of keyword).name a
-            → IsKnown self.old.linked.now (row_of keyword).name a planned.now
-            → OnOk result (Adds self.old self.new (part_notes (row_of keyword).meaning
-            (part_outcome self.old.linked.now nesting (row_of keyword).name a planned.now))) }
-        ensures err { (a : Application)
-            → IsUnder (context_view self.old.context) (row_of keyword).name a
-            → IsKnown self.old.linked.now (row_of keyword).name a planned.now
-            → IfErr result (λ f. IsCostly f self.old (part_notes (row_of keyword).meaning
-            (part_outcome self.old.linked.now nesting (row_of keyword).name a planned.now))) }
+            → HasPart self.old self.new result (row_of keyword).meaning
+            (part_outcome self.old.linked.now nesting (row_of keyword).name a planned.now) }
     {
         if self.passes_silently(planned, nesting)? {
             self.log.note_silent(planned.part)?;
@@ -311,24 +242,12 @@ impl<'a> Evaluation<'a> {
         planned: &Planned<'a>,
         nesting: u32,
     ) -> Result<bool, Halt>
-        ensures linked { self.new.linked ≡ self.old.linked }
-        ensures back { OnOk result (context_view self.new.context ≡ context_view self.old.context) }
-        ensures valid { (a : Application)
+        ensures stays { Stays self.old self.new result }
+        ensures said { (a : Application)
             → IsUnder (context_view self.old.context) (row_of keyword).name a
             → IsKnown self.old.linked.now (row_of keyword).name a planned.now
-            → IfOk result (λ b. b
-            ≡ (part_outcome self.old.linked.now nesting
-            (row_of keyword).name a planned.now).1.valid) }
-        ensures noted { (a : Application)
-            → IsUnder (context_view self.old.context) (row_of keyword).name a
-            → IsKnown self.old.linked.now (row_of keyword).name a planned.now
-            → OnOk result (Adds self.old self.new (part_notes (row_of keyword).meaning
-            (part_outcome self.old.linked.now nesting (row_of keyword).name a planned.now))) }
-        ensures err { (a : Application)
-            → IsUnder (context_view self.old.context) (row_of keyword).name a
-            → IsKnown self.old.linked.now (row_of keyword).name a planned.now
-            → IfErr result (λ f. IsCostly f self.old (part_notes (row_of keyword).meaning
-            (part_outcome self.old.linked.now nesting (row_of keyword).name a planned.now))) }
+            → HasPart self.old self.new result (row_of keyword).meaning
+            (part_outcome self.old.linked.now nesting (row_of keyword).name a planned.now) }
     {
         let mark = self.log.mark();
         let valid = self.apply_entered(planned, nesting)?;
@@ -339,20 +258,11 @@ impl<'a> Evaluation<'a> {
     // Enters the schema that is planned, and applies it.
     #[cycle(apply)]
     fn apply_entered(&mut self, planned: &Planned<'a>, nesting: u32) -> Result<bool, Halt>
-        ensures linked { self.new.linked ≡ self.old.linked }
-        ensures back { OnOk result (context_view self.new.context ≡ context_view self.old.context) }
-        ensures valid { (a : Application) (k : Text) → IsUnder (context_view self.old.context) k a
-            → IsKnown self.old.linked.now k a planned.now
-            → IfOk result (λ b. b
-            ≡ (part_outcome self.old.linked.now nesting k a planned.now).1.valid) }
-        ensures noted { (a : Application) (k : Text) → IsUnder (context_view self.old.context) k a
-            → IsKnown self.old.linked.now k a planned.now
-            → OnOk result (Adds self.old self.new (outcome_notes
-            (part_outcome self.old.linked.now nesting k a planned.now).1)) }
-        ensures err { (a : Application) (k : Text) → IsUnder (context_view self.old.context) k a
-            → IsKnown self.old.linked.now k a planned.now
-            → IfErr result (λ f. IsCostly f self.old (outcome_notes
-            (part_outcome self.old.linked.now nesting k a planned.now).1)) }
+        ensures stays { Stays self.old self.new result }
+        ensures said { (a : Application) (k : Text)
+            → IsUnder (context_view self.old.context) k a → IsKnown self.old.linked.now k a planned.now
+            → HasOutcome self.old self.new result
+            (part_outcome self.old.linked.now nesting k a planned.now).1 }
     {
         let mut positions = [0; KEYWORDS];
         let present = Present::of(planned.schema, &mut positions);

@@ -9,7 +9,6 @@ ghost use Rattle.definitions.specs.Uris.{begins};
 ghost use Rattle.definitions.specs.Applied.{Application};
 ghost use Rattle.definitions.specs.Outcomes.{other_annotations};
 ghost use Rattle.json_doc.specs.Docs.{value, members_value};
-ghost use Rattle.json_doc.specs.Kinds.{as_boolean};
 ghost use Rattle.json_doc.specs.Members.{members_left};
 ghost use Rattle.keywords.specs.Rows.{row_named, row_of};
 ghost use Rattle.keywords.specs.declared.keyword.Keyword.TheVariants.{UnevaluatedItems, UnevaluatedProperties};

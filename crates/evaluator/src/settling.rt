@@ -1,24 +1,22 @@
 //! What a keyword itself reports, annotates and evaluates, once its schemas were applied (JSON Schema 2020-12 Core, 7.7,
 //! 11 and 12.4.2).
 
-ghost use Rattle.std.specs.Prelude.{◌≡◌, ◌++◌, [], ◌∷◌, ℕ, List, None, false, true, drop, if◌then◌else◌, length, map, IfErr, OnOk};
+ghost use Rattle.std.specs.Prelude.{◌≡◌, ◌++◌, [], ◌∷◌, ℕ, List, None, true, drop, if◌then◌else◌, length, map, OnOk};
 ghost use Rattle.definitions.specs.Values.{Text, Value};
-ghost use Rattle.definitions.specs.Applied.{Application, Outcome, Part, Rules};
-ghost use Rattle.definitions.specs.Evaluated.{evaluated_indexes, evaluated_names};
+ghost use Rattle.definitions.specs.Applied.{Application};
 ghost use Rattle.definitions.specs.Keywords.{looks_at_evaluated};
-ghost use Rattle.definitions.specs.Outcomes.{Use, own_annotation};
+ghost use Rattle.definitions.specs.Outcomes.{own_annotation};
 ghost use Rattle.basic_output.specs.Units.{unit_texts};
 ghost use Rattle.evaluation_context.specs.Frames.{context_view};
 ghost use Rattle.applicators.specs.Annotations.{annotation_names};
 ghost use Rattle.keyword_plans.specs.ScopeViews.{scope_documents};
-ghost use Rattle.applicators.specs.Plans.{outcomes_of};
 ghost use Rattle.json_doc.specs.NamedMembers.{name_text};
 ghost use Rattle.keywords.specs.Rows.{row_of};
 ghost use Rattle.applicators.specs.Subjects.{subject_value};
 ghost use Rattle.linker.specs.declared.linked.Linked.{Linked};
 ghost use Rattle.evaluator.specs.Logs.{log_view, mark_view};
 ghost use Rattle.evaluator.specs.Notes.{Notes, annotation_texts, evaluates, lengths, notes_of_both, parts_notes, uses_notes, visible_notes};
-ghost use Rattle.evaluator.specs.Rounds.{IsUnder, linked_outcome, use_there};
+ghost use Rattle.evaluator.specs.Rounds.{IsUnder, use_there};
 
 use crate::log::{Before, Log, LogMark};
 use applicators::{Evaluated, Subject, annotate, distinct_names};

@@ -29,6 +29,7 @@ impl<'a> Evaluation<'a> {
     ghost use Rattle.definitions.specs.Values.{Text};
     ghost use Rattle.applicators.specs.Subjects.{subject_value};
     ghost use Rattle.evaluation_context.specs.Frames.{context_view};
+    ghost use Rattle.evaluator.specs.Applying.{IsUntouched};
     ghost use Rattle.evaluator.specs.Rounds.{IsUnder, part_outcome};
     ghost use Rattle.evaluator.specs.Silences.{IsSilent, is_met_alone};
 
@@ -40,9 +41,7 @@ impl<'a> Evaluation<'a> {
         planned: &Planned<'a>,
         nesting: u32,
     ) -> Result<bool, AllocError>
-        ensures linked { self.new.linked ≡ self.old.linked }
-        ensures back { self.new.context ≡ self.old.context }
-        ensures noted { self.new.log ≡ self.old.log }
+        ensures same { IsUntouched self.old self.new }
         ensures room { IfOk result (λ b. b ≡ true → self.old.log.count < limits.applications) }
         ensures silent { (a : Application) (k : Text) → IsUnder (context_view self.old.context) k a
             → IfOk result (λ b. b ≡ true → IsSilent
@@ -76,9 +75,7 @@ impl<'a> Evaluation<'a> {
         planned: &Planned<'a>,
         nesting: u32,
     ) -> Result<bool, AllocError>
-        ensures linked { self.new.linked ≡ self.old.linked }
-        ensures back { self.new.context ≡ self.old.context }
-        ensures noted { self.new.log ≡ self.old.log }
+        ensures same { IsUntouched self.old self.new }
         ensures room { IfOk result (λ b. b ≡ true → self.old.log.count < limits.applications) }
         ensures silent { (a : Application) (k : Text) → IsUnder (context_view self.old.context) k a
             → IfOk result (λ b. b ≡ true → IsSilent
@@ -113,9 +110,7 @@ impl<'a> Evaluation<'a> {
     // Whether the members surely are those of a schema object that applies nothing, none annotates with its own value, and the
     // assertions hold that they make. The only error is want of memory.
     fn are_met(&mut self, members: &Members, subject: Subject<'a>) -> Result<bool, AllocError>
-        ensures linked { self.new.linked ≡ self.old.linked }
-        ensures back { self.new.context ≡ self.old.context }
-        ensures noted { self.new.log ≡ self.old.log }
+        ensures same { IsUntouched self.old self.new }
         ensures met { IfOk result (λ b. b ≡ true
             → list_all (is_met_alone (subject_value subject.entry)) (members_value members.now)
             ≡ true) }
@@ -137,9 +132,7 @@ impl<'a> Evaluation<'a> {
         keyword_value: &Doc,
         subject: Subject<'a>,
     ) -> Result<bool, AllocError>
-        ensures linked { self.new.linked ≡ self.old.linked }
-        ensures back { self.new.context ≡ self.old.context }
-        ensures noted { self.new.log ≡ self.old.log }
+        ensures same { IsUntouched self.old self.new }
         ensures met { IfOk result (λ b. b ≡ true
             → is_met_alone (subject_value subject.entry)
             (name_text name.entry, value keyword_value.now) ≡ true) }
@@ -162,9 +155,7 @@ impl<'a> Evaluation<'a> {
         keyword_value: &Doc,
         subject: Subject<'a>,
     ) -> Result<bool, AllocError>
-        ensures linked { self.new.linked ≡ self.old.linked }
-        ensures back { self.new.context ≡ self.old.context }
-        ensures noted { self.new.log ≡ self.old.log }
+        ensures same { IsUntouched self.old self.new }
         ensures met { IfOk result (λ b. b ≡ true
             → holds (assertion_view assertion) (value keyword_value.now)
             (subject_value subject.entry)

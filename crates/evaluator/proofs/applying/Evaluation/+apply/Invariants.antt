@@ -1,14 +1,14 @@
-use Rattle.std.proofs.Common.{◌≡◌, take, length, Contains, ◌≤◌, ◌+◌, ◌-◌, ◌*◌}
-use Rattle.std.specs.List.{list_all}
+use Rattle.std.proofs.Common.{◌≡◌, Ok, take, length, Contains, ◌≤◌, ◌+◌, ◌-◌, ◌*◌}
 use Rattle.definitions.specs.Applied.{Application}
 use Rattle.json_doc.specs.Docs.{value}
 use Rattle.keyword_plans.specs.Applications.{named_count}
 use Rattle.applicators.specs.Subjects.{subject_value}
 use Rattle.evaluation_context.specs.Frames.{context_view}
+use Rattle.evaluator.specs.Applying.{HasUses}
 use Rattle.evaluator.specs.Findings.{FindsAll}
 use Rattle.evaluator.specs.Groups.{first_groups}
 use Rattle.evaluator.specs.Logs.{log_view}
-use Rattle.evaluator.specs.Notes.{notes_of_both, uses_notes, parts_notes}
+use Rattle.evaluator.specs.Notes.{notes_of_both, parts_notes}
 use Rattle.evaluator.specs.Rounds.{IsAt, groups_uses, IsKnown, IsUnder, part_outcomes}
 use Rattle.keywords.specs.Rows.{row_of}
 use Rattle.applicators.specs.declared.planned.Planned.{Planned}
@@ -71,10 +71,8 @@ invariant-use_groups-loop-next l =
     record {
       linked : l.self.linked ≡ l.fn.self.linked;
       back : context_view l.self.context ≡ context_view l.fn.self.context;
-      valid : (a : Application) → IsAt l.fn.self.linked.now (context_view l.fn.self.context) (value l.here.present.now.schema.now) (subject_value l.here.subject) a
-          → l.valid ≡ list_all (λ u. u.passes) (groups_uses l.fn.self.linked.now l.nesting a (take l.next first_groups));
-      noted : (a : Application) → IsAt l.fn.self.linked.now (context_view l.fn.self.context) (value l.here.present.now.schema.now) (subject_value l.here.subject) a
-          → log_view l.self.log ≡ notes_of_both (log_view l.fn.self.log) (uses_notes a (groups_uses l.fn.self.linked.now l.nesting a (take l.next first_groups)));
+      said : (a : Application) → IsAt l.fn.self.linked.now (context_view l.fn.self.context) (value l.here.present.now.schema.now) (subject_value l.here.subject) a
+          → HasUses l.fn.self l.self (Ok l.valid) a (groups_uses l.fn.self.linked.now l.nesting a (take l.next first_groups));
       named : (a : Application) → IsAt l.fn.self.linked.now (context_view l.fn.self.context) (value l.here.present.now.schema.now) (subject_value l.here.subject) a
           → l.named ≤ named_count a;
     }

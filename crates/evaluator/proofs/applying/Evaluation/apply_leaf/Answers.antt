@@ -14,24 +14,23 @@ use Rattle.evaluator.proofs.LeafLaws.{leaf_uses}
 use Rattle.evaluator.proofs.ObjectLaws.{object_by_groups}
 use Rattle.evaluator.proofs.applying.Evaluation.apply_leaf.Goals as goal
 
-pub returns-clause-valid : goal.returns-clause-valid
-returns-clause-valid c a left at =
-    let l = c.args.self.now.linked.now in
-    let s = value c.args.present.now.schema.now in
-    let same : a.schema.value ≡ s = ap (λ (b : Application). b.schema.value) at.there in
-    c.in_ok-valid.ensures.valid a left at
-    ∙ ap (λ (o : Outcome). o.valid) (ap (outcome_of_uses a) (leaf_uses l left a s same c.requires.leaf) ∙ sym (object_by_groups l left a))
-
-pub returns-clause-noted : goal.returns-clause-noted
-returns-clause-noted c a left at =
+pub returns-clause-said : goal.returns-clause-said
+returns-clause-said c a left at =
     let l = c.args.self.now.linked.now in
     let s = value c.args.present.now.schema.now in
     let same : a.schema.value ≡ s = ap (λ (b : Application). b.schema.value) at.there in
     let us = groups_uses l left a first_groups in
     let n = log_view c.args.self.now.log in
     let mid = log_view c.count_one.new.self in
-    c.in_ok-settle_object.ensures.noted a n us
-    (at.there ∙ ap (λ (f : Frame). application_at (frame_standing f) s (subject_value c.args.subject)) (sym c.in_ok-valid.ensures.back))
-    (c.mark-mark.ensures ∙ counted_lengths n mid c.count_one.ensures)
-    (counted_noted a n mid (log_view c.use_assertions.new.self.log) us c.count_one.ensures (c.in_ok-valid.ensures.noted a left at)) (c.in_ok-valid.ensures.valid a left at)
-    ∙ ap (λ (o : Outcome). notes_of_both n (outcome_notes o)) (ap (outcome_of_uses a) (leaf_uses l left a s same c.requires.leaf) ∙ sym (object_by_groups l left a))
+    let used = c.in_ok-valid.ensures.said a left at in
+    let object = ap (outcome_of_uses a) (leaf_uses l left a s same c.requires.leaf) ∙ sym (object_by_groups l left a) in
+    record {
+      found = used.found ∙ ap (λ (o : Outcome). o.valid) object;
+      noted =
+          c.in_ok-settle_object.ensures.noted a n us
+          (at.there ∙ ap (λ (f : Frame). application_at (frame_standing f) s (subject_value c.args.subject)) (sym c.in_ok-valid.ensures.stays.back))
+          (c.mark-mark.ensures ∙ counted_lengths n mid c.count_one.ensures)
+          (counted_noted a n mid (log_view c.use_assertions.new.self.log) us c.count_one.ensures used.noted) used.found
+          ∙ ap (λ (o : Outcome). notes_of_both n (outcome_notes o)) object;
+      err = tt;
+    }

@@ -7,9 +7,9 @@ use Rattle.evaluator.proofs.applying.Evaluation.are_met.Goals as goal
 
 pub loop-name-preserved : goal.loop-name-preserved
 loop-name-preserved c = record {
-  linked = c.in_ok-met.ensures.linked ∙ c.loop-name.invariant.linked;
-  back = c.in_ok-met.ensures.back ∙ c.loop-name.invariant.back;
-  noted = c.in_ok-met.ensures.noted ∙ c.loop-name.invariant.noted;
+  linked = c.in_ok-met.ensures.same.linked ∙ c.loop-name.invariant.linked;
+  context = c.in_ok-met.ensures.same.context ∙ c.loop-name.invariant.context;
+  log = c.in_ok-met.ensures.same.log ∙ c.loop-name.invariant.log;
   met =
       λ rest. c.loop-name.invariant.met
       (ap (list_all (is_met_alone (subject_value c.args.subject))) c.in-Some.ensures.steps ∙ and_from _ _ (c.in_ok-met.ensures.met c.if-not-met.false) rest);

@@ -11,8 +11,8 @@ abbrev pub invariant-loop-name : goal.invariant-loop-name
 invariant-loop-name l =
     record {
       linked : l.self.linked ≡ l.fn.self.linked;
-      back : l.self.context ≡ l.fn.self.context;
-      noted : l.self.log ≡ l.fn.self.log;
+      context : l.self.context ≡ l.fn.self.context;
+      log : l.self.log ≡ l.fn.self.log;
       met : list_all (is_met_alone (subject_value l.fn.subject)) (named_left l.name-iterator) ≡ true
           → list_all (is_met_alone (subject_value l.fn.subject)) (members_value l.fn.members) ≡ true;
     }

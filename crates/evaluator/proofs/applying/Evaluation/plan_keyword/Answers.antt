@@ -10,16 +10,19 @@ use Rattle.evaluation_context.specs.Frames.{context_view, frame_standing}
 use Rattle.evaluator.specs.Logs.{log_view}
 use Rattle.evaluator.specs.Rounds.{linked_outcome}
 use Rattle.evaluator.proofs.AloneLaws.{same_looked}
+use Rattle.evaluator.proofs.SettlingLaws.{plan_of}
 use Rattle.evaluator.proofs.applying.Evaluation.plan_keyword.Goals as goal
 
 pub returns-clause-planned : goal.returns-clause-planned
 unfolding log_view context_view frame_standing
-returns-clause-planned c a left at knows got =
+returns-clause-planned c a left used =
+    let at = used.here in
     let l = c.args.self.now.linked.now in
     let row = row_of c.args.keyword in
     let names = λ (looks : looks_at_evaluated row.meaning ≡ true). c.evaluated_for.ensures.names looks ∙ ap (λ ns. drop c.args.here.now.before.names (map name_text ns)) c.deref.ensures.value in
     let indexes = λ (looks : looks_at_evaluated row.meaning ≡ true). c.evaluated_for.ensures.indexes looks ∙ ap (λ is. drop c.args.here.now.before.indexes is) c.deref-2.ensures.value in
-    c.in_ok-plan.ensures.ok a (linked_outcome l left)
+    plan_of l left c.args.keyword a _ _ _ _ at.inside at.scope used.valued
+    (c.in_ok-plan.ensures.ok a (linked_outcome l left)
     (record {
       schema = ap (λ (b : Application). b.schema.value) at.there;
       resource = ap (λ (b : Application). b.schema.resource) at.there ∙ sym c.resource.ensures;
@@ -27,8 +30,8 @@ returns-clause-planned c a left at knows got =
       inside = at.inside;
       scope = at.scope;
     })
-    c.args.self.now.followed (ap (λ (b : Application). b.scope) at.there) c.args.self.now.searched got knows.condition
-    ∙ same_looked (linked_rules l) (linked_outcome l left) _ _ _ _ a row.name row.meaning (value c.args.keyword_value.now) names indexes
+    c.args.self.now.followed (ap (λ (b : Application). b.scope) at.there) c.args.self.now.searched used.valued used.knows.condition
+    ∙ same_looked (linked_rules l) (linked_outcome l left) _ _ _ _ a row.name row.meaning (value c.args.keyword_value.now) names indexes)
 
 pub returns-clause-back : goal.returns-clause-back
 unfolding context_view
@@ -39,7 +42,9 @@ unfolding context_view
 returns-in_err-plan-clause-back c = ap (λ uris. record (context_view c.args.self.now.context) { scope = uris }) c.plan.ensures.uris
 
 pub returns-then-surely_applies_nothing-clause-planned : goal.returns-then-surely_applies_nothing-clause-planned
-returns-then-surely_applies_nothing-clause-planned c a left at knows got =
+returns-then-surely_applies_nothing-clause-planned c a left used =
+    let at = used.here in
     let l = c.args.self.now.linked.now in
-    ap (map (planned_view (row_of c.args.keyword).name a)) c.new.ensures.items
-    ∙ sym (c.surely_applies_nothing.ensures l a (linked_outcome l left) _ _ (value c.args.keyword_value.now) at.inside (ap (λ (b : Application). b.instance) at.there) knows.named c.if-surely_applies_nothing.true)
+    plan_of l left c.args.keyword a _ _ _ _ at.inside at.scope used.valued
+    (ap (map (planned_view (row_of c.args.keyword).name a)) c.new.ensures.items
+    ∙ sym (c.surely_applies_nothing.ensures l a (linked_outcome l left) _ _ (value c.args.keyword_value.now) at.inside (ap (λ (b : Application). b.instance) at.there) used.knows.named c.if-surely_applies_nothing.true))

@@ -1,23 +1,19 @@
-use Rattle.std.proofs.Common.{◌≡◌, ◌<◌, ◌≤◌, ◌+◌, ◌&&◌, ◌∙◌, [], ℕ, Bor, false, refl, sym, ap, ap₂, subst, arith, length, get_or, take}
+use Rattle.std.proofs.Common.{Ok, true, rules, ◌≡◌, ◌<◌, ◌≤◌, ◌+◌, ◌&&◌, ◌∙◌, [], ℕ, Bor, false, refl, sym, ap, subst, arith, length, get_or}
 use Rattle.std.proofs.lemmas.List.{take_all}
-use Rattle.std.proofs.lemmas.List.Folds.{list_all-append}
-use Rattle.std.specs.List.{list_all}
 use Rattle.definitions.specs.Applied.{Application}
-use Rattle.definitions.specs.Outcomes.{Use}
 use Rattle.json_doc.specs.Docs.{value}
 use Rattle.keywords.specs.declared.group.Group.TheVariants.{One}
 use Rattle.keywords.specs.declared.keyword.Keyword.TheVariants.{Ref}
 use Rattle.applicators.specs.Subjects.{subject_value}
 use Rattle.linker.specs.declared.linked.Linked.{Linked}
 use Rattle.evaluation_context.specs.Frames.{context_view}
+use Rattle.evaluator.specs.Applying.{HasUses}
 use Rattle.evaluator.specs.Groups.{asserts_alone, first_groups}
-use Rattle.evaluator.specs.Logs.{log_view}
-use Rattle.evaluator.specs.Notes.{notes_of_both, uses_notes}
 use Rattle.evaluator.specs.Rounds.{IsAt, group_uses, groups_uses}
 use Rattle.evaluator.proofs.LeafLaws.{leaf_group}
-use Rattle.evaluator.proofs.LogLaws.{added_nothing}
 use Rattle.evaluator.proofs.PresentLaws.{groups_passed}
-use Rattle.evaluator.proofs.UseLaws.{few_groups, flat_more, group_noted, still_at}
+use Rattle.evaluator.proofs.TurnLaws.{group_used, none_used}
+use Rattle.evaluator.proofs.UseLaws.{few_groups, still_at}
 use Rattle.evaluator.proofs.applying.Evaluation.use_assertions.Goals as goal
 
 pub loop-next-init : goal.loop-next-init
@@ -29,12 +25,11 @@ loop-next-init c =
     record {
       linked = refl;
       back = refl;
-      valid = λ a left at. ap (list_all (λ (u : Use). u.passes)) (none a left at);
-      noted = λ a left at. sym (added_nothing (log_view c.args.self.now.log)) ∙ ap (λ us. notes_of_both (log_view c.args.self.now.log) (uses_notes a us)) (none a left at);
+      said = λ a left at. subst (HasUses c.args.self.now c.args.self.now (Ok true) a) (none a left at) (none_used c.args.self.now a);
     }
 
-pub returns-in_err-passes-clause-linked : goal.returns-in_err-passes-clause-linked
-returns-in_err-passes-clause-linked c = c.use_asserting.ensures.linked ∙ c.loop-next.invariant.linked
+pub returns-in_err-passes-clause-stays : goal.returns-in_err-passes-clause-stays
+returns-in_err-passes-clause-stays c = record { linked = c.use_asserting.ensures.stays.linked ∙ c.loop-next.invariant.linked; back = search rules }
 
 pub first_mark-next-requires-in-loop-next : goal.first_mark-next-requires-in-loop-next
 first_mark-next-requires-in-loop-next c =
@@ -57,41 +52,22 @@ loop-next-preserved c =
     (subst (λ (m : Bor Linked). asserts_alone (get_or first_groups i (One Ref)) ≡ false → group_uses m.now left a (get_or first_groups i (One Ref)) ≡ []) (sym same)
     (leaf_group l left a s i (schema a at) c.requires.leaf inside)) in
     record {
-      linked = c.in_ok-passes.ensures.linked ∙ same;
-      back = c.in_ok-passes.ensures.back ∙ c.loop-next.invariant.back;
-      valid =
+      linked = c.in_ok-passes.ensures.stays.linked ∙ same;
+      back = c.in_ok-passes.ensures.stays.back ∙ c.loop-next.invariant.back;
+      said =
           λ a left at.
           let there = still_at same c.loop-next.invariant.back at in
-          let passes = c.in_ok-passes.ensures.valid a left there (gone a left at)
-          ∙ ap (λ (m : Bor Linked). list_all (λ (u : Use). u.passes) (group_uses m.now left a (get_or c.first_groups-groups.result.now i (One Ref)))) same
-          ∙ ap (λ g. list_all (λ (u : Use). u.passes) (group_uses l left a g)) here in
-          ap₂ (λ p q. p && q) (c.loop-next.invariant.valid a left at) passes
-          ∙ sym (list_all-append (λ (u : Use). u.passes) (groups_uses l left a (take i first_groups)) (group_uses l left a (get_or first_groups i (One Ref))))
-          ∙ ap (list_all (λ (u : Use). u.passes)) (sym (flat_more (group_uses l left a) first_groups i (One Ref) inside) ∙ on a left at);
-      noted =
-          λ a left at.
-          let there = still_at same c.loop-next.invariant.back at in
-          let new = log_view c.use_asserting.new.self.log in
-          group_noted a (log_view c.args.self.now.log) (log_view c.loop-next.self.log) new (group_uses l left a) first_groups i (One Ref)
-          inside (c.loop-next.invariant.noted a left at)
-          (subst (λ g. new ≡ notes_of_both (log_view c.loop-next.self.log) (uses_notes a (group_uses l left a g))) here
-          (subst (λ (m : Bor Linked). new ≡ notes_of_both (log_view c.loop-next.self.log) (uses_notes a (group_uses m.now left a (get_or c.first_groups-groups.result.now i (One Ref))))) same
-          (c.in_ok-passes.ensures.noted a left there (gone a left at))))
-          ∙ ap (λ us. notes_of_both (log_view c.args.self.now.log) (uses_notes a us)) (on a left at);
+          let used = subst (λ (m : Bor Linked). HasUses c.loop-next.self c.use_asserting.new.self (Ok c.in_ok-passes.passes) a (group_uses m.now left a (get_or c.first_groups-groups.result.now i (One Ref)))) same
+          (c.in_ok-passes.ensures.said a left there (gone a left at)) in
+          subst (HasUses c.args.self.now c.use_asserting.new.self (Ok (c.loop-next.valid && c.in_ok-passes.passes)) a) (on a left at)
+          (group_used a (group_uses l left a) first_groups i (One Ref) inside (c.loop-next.invariant.said a left at)
+          (subst (λ g. HasUses c.loop-next.self c.use_asserting.new.self (Ok c.in_ok-passes.passes) a (group_uses l left a g)) here used));
     }
 
-pub returns-clause-linked : goal.returns-clause-linked
-returns-clause-linked c = c.loop-next.invariant.linked
+pub returns-clause-stays : goal.returns-clause-stays
+returns-clause-stays c = record { linked = c.loop-next.invariant.linked; back = c.loop-next.invariant.back }
 
-pub returns-clause-back : goal.returns-clause-back
-returns-clause-back c = c.loop-next.invariant.back
-
-pub returns-clause-valid : goal.returns-clause-valid
-returns-clause-valid c a left at =
+pub returns-clause-said : goal.returns-clause-said
+returns-clause-said c a left at =
     let past : length first_groups ≤ c.loop-next.next = subst (λ gs. length gs ≤ c.loop-next.next) c.first_groups-groups.ensures c.loop-next-test.false in
-    subst (λ gs. c.loop-next.valid ≡ list_all (λ u. u.passes) (groups_uses c.args.self.now.linked.now left a gs)) (take_all c.loop-next.next first_groups past) (c.loop-next.invariant.valid a left at)
-
-pub returns-clause-noted : goal.returns-clause-noted
-returns-clause-noted c a left at =
-    let past : length first_groups ≤ c.loop-next.next = subst (λ gs. length gs ≤ c.loop-next.next) c.first_groups-groups.ensures c.loop-next-test.false in
-    subst (λ gs. log_view c.loop-next.self.log ≡ notes_of_both (log_view c.args.self.now.log) (uses_notes a (groups_uses c.args.self.now.linked.now left a gs))) (take_all c.loop-next.next first_groups past) (c.loop-next.invariant.noted a left at)
+    subst (λ gs. HasUses c.args.self.now c.loop-next.self (Ok c.loop-next.valid) a (groups_uses c.args.self.now.linked.now left a gs)) (take_all c.loop-next.next first_groups past) (c.loop-next.invariant.said a left at)

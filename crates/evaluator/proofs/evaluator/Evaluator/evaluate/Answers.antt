@@ -23,13 +23,13 @@ returns c =
     let a = first_application found.0 x in
     let o = root_outcome l a in
     let at = is_at_root l (context_view e.evaluation.context) (value e.schema.now) x found.0 stands found.1 in
-    let noted = noted_first c.apply_root-passed.result (log_view c.apply_root-passed.new.self.log) _ o e.nothing_noted (c.apply_root-passed.ensures.noted a at) in
-    let costly = costly_first c.apply_root-passed.result _ o e.nothing_noted (c.apply_root-passed.ensures.err a at) in
+    let noted = noted_first c.apply_root-passed.result (log_view c.apply_root-passed.new.self.log) _ o e.nothing_noted ((c.apply_root-passed.ensures.said a at).noted) in
+    let costly = costly_first c.apply_root-passed.result _ o e.nothing_noted ((c.apply_root-passed.ensures.said a at).err) in
     let r = c.reported-report.result in
-    let given = gives_same r (ap (λ m. linked_answer m x) (sym same) ∙ first_outcome l found.0 x found.1) (c.reported-report.ensures o (c.apply_root-passed.ensures.valid a at) noted costly) in
+    let given = gives_same r (ap (λ m. linked_answer m x) (sym same) ∙ first_outcome l found.0 x found.1) (c.reported-report.ensures o ((c.apply_root-passed.ensures.said a at).found) noted costly) in
     record {
       ok = gives_ok r _ given;
       err = gives_err r _ given;
       whole = λ G distinct reached. gives_same r (unreached_changes_nothing (evaluator_linked c.args.self.now) G x distinct reached) given;
-      same = ap (λ k. k.now) c.apply_root-passed.ensures.linked ∙ same;
+      same = ap (λ k. k.now) c.apply_root-passed.ensures.stays.linked ∙ same;
     }

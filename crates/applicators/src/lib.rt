@@ -8,14 +8,15 @@ mod plan_memory;
 mod planned;
 mod planning;
 mod subject;
+mod tuning;
 
 pub use annotating::{annotate, distinct_names};
 pub use evaluated::Evaluated;
 pub use plan_memory::PlanMemory;
 pub use planned::{Part, Planned, Way};
 pub use planning::{
-    FAR_LONGER, plan_consequence, plan_dependents, plan_items, plan_listed, plan_names, plan_own,
-    plan_prefix, plan_properties, plan_unevaluated_items, plan_unevaluated_properties,
-    prefix_length,
+    plan_consequence, plan_dependents, plan_items, plan_listed, plan_names, plan_own, plan_prefix,
+    plan_properties, plan_unevaluated_items, plan_unevaluated_properties, prefix_length,
 };
 pub use subject::{Subject, members_of};
+pub use tuning::FAR_LONGER;

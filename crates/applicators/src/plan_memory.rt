@@ -1,10 +1,8 @@
 //! The memory of plans.
 
 use crate::planned::Planned;
+use crate::tuning::MOST_KEPT;
 use std::alloc::Global;
-
-/// How many plans of one keyword there may be room for in what is kept.
-const MOST_KEPT: usize = 64;
 
 /// The memory of plans that are done with, for those of the next keywords. No plan depends on what is in it.
 ///

@@ -10,5 +10,5 @@ mod unevaluated;
 
 pub use in_place::{plan_consequence, plan_dependents, plan_listed, plan_own};
 pub use items::{plan_items, plan_prefix, prefix_length};
-pub use members::{FAR_LONGER, plan_names, plan_properties};
+pub use members::{plan_names, plan_properties};
 pub use unevaluated::{plan_unevaluated_items, plan_unevaluated_properties};

@@ -7,6 +7,7 @@ mod memory;
 mod name_lists;
 mod origin;
 mod says;
+mod tuning;
 mod unit_text;
 mod units;
 mod written_pointer;

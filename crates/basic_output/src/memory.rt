@@ -1,10 +1,6 @@
 //! Memory that is kept from one text to the next.
 
-/// How large the memory of a text may be that is always kept for the next text, in bytes.
-const ALWAYS_KEPT: usize = 1_048_576;
-
-/// How large it may be where it is kept as long as the texts are large, in bytes.
-const MOST_KEPT: usize = 16_777_216;
+use crate::tuning::{ALWAYS_KEPT, MOST_KEPT};
 
 /// Whether the memory of a text, of so many bytes, is kept for the next one: it doesn't stay large because of one large text.
 pub(crate) fn is_kept(bytes: usize) -> bool {

@@ -7,14 +7,9 @@ ghost use Rattle.json_doc.specs.NamedMembers.{name_text};
 ghost use Rattle.json_doc.specs.SmallTexts.{short_text};
 ghost use Rattle.basic_output.specs.Pieces.{names_text};
 
+use crate::tuning::{KEPT_LISTS, LONGEST_KEPT_LIST};
 use json_doc::{Name, ShortText};
 use std::alloc::{AllocError, Global};
-
-/// How many texts are kept at most.
-const PLACES: usize = 64;
-
-/// How many bytes a text has at most that is kept.
-const LONGEST: usize = 256;
 
 /// The text of a list of short names.
 #[derive(Debug, Drop)]
@@ -113,7 +108,7 @@ impl NameListCache {
     {
         let alloc = *self.texts.allocator();
         let place = place_of(names);
-        if text.len() <= LONGEST {
+        if text.len() <= LONGEST_KEPT_LIST {
             while self.texts.len() <= place {
                 self.texts.push(NameList::new(alloc))?;
             }
@@ -130,7 +125,7 @@ fn place_of(names: &[Name<'_>]) -> usize
 {
     match (names.first(), names.last()) {
         (Some(first), Some(last)) => {
-            (names.len() ^ (ends_of(*first) << 2) ^ (ends_of(*last) << 1)) & (PLACES - 1)
+            (names.len() ^ (ends_of(*first) << 2) ^ (ends_of(*last) << 1)) & (KEPT_LISTS - 1)
         }
         _ => 0,
     }

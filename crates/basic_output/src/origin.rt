@@ -9,6 +9,7 @@ ghost use Rattle.locations.specs.Steps.{tokens};
 ghost use Rattle.basic_output.specs.Pieces.{IsHead, head_text};
 
 use crate::memory::is_kept;
+use crate::tuning::HEAD_ROOM;
 use crate::unit_text::{TextBuffer, are_unescaped, push_escaped};
 use locations::{Step, push_fragment};
 use std::alloc::{AllocError, Global};
@@ -16,9 +17,6 @@ use std::rc::Rc;
 
 /// The beginning of a head.
 const KEY: &str = "{\"absoluteKeywordLocation\":\"";
-
-/// How many bytes a head most often takes at most.
-const ROOM: usize = 128;
 
 /// A schema that is entered otherwise than by a step from the keyword above it, as what a reference names is: the URI of
 /// its resource, and the steps from that resource's root (JSON Schema 2020-12 Core, section 8.2). The locations of keywords
@@ -130,7 +128,7 @@ fn head_of(memory: String, uri: &str, steps: &[Step<'_>]) -> Result<String, Allo
 {
     let mut head = memory;
     head.clear();
-    head.reserve(ROOM)?;
+    head.reserve(HEAD_ROOM)?;
     head.push_str(KEY)?;
     head.push_str(uri)?;
     head.push_str("#")?;

@@ -6,7 +6,7 @@ ghost use Rattle.definitions.specs.Schemas.{Schema, schema_at};
 ghost use Rattle.definitions.specs.Applied.{Application, part_location};
 ghost use Rattle.basic_output.specs.PointerViews.{origin_view};
 ghost use Rattle.json_doc.specs.Docs.{value};
-ghost use Rattle.keyword_plans.specs.OpenedResources.{Opens};
+ghost use Rattle.linker.specs.OpenedSchemas.{Opens};
 ghost use Rattle.applicators.specs.Plans.{part_view, planned_view, step_view, way_view};
 ghost use Rattle.keyword_plans.specs.ScopeViews.{scope_documents};
 ghost use Rattle.linker.specs.LinkedDocuments.{linked_schemas};

@@ -7,16 +7,14 @@ ghost use Rattle.definitions.specs.Uris.{begins};
 ghost use Rattle.json_doc.specs.Docs.{members_value};
 ghost use Rattle.json_doc.specs.Members.{members_left};
 
+use crate::tuning::FEW_MEMBERS;
 use json_doc::{Cut, Members};
-
-/// Up to so many members, going through all takes no longer than to search for those to pass over.
-const FEW: usize = 64;
 
 /// Whether there are so many members that those whose names begin with `$` should be passed over together.
 pub(crate) fn are_many(members: &Members) -> bool
     ensures { result ≡ nat_lt 64 (length (members_value members.now)) }
 {
-    members.len() > FEW
+    members.len() > FEW_MEMBERS
 }
 
 /// The members cut before and after those whose names begin with `$`. The time grows with the logarithm of the number

@@ -22,6 +22,7 @@ mod report;
 mod settling;
 mod settling_object;
 mod silent;
+mod tuning;
 
 pub use evaluator::Evaluator;
 pub use faults::Fault;

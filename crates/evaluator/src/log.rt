@@ -8,6 +8,7 @@ ghost use Rattle.json_doc.specs.NamedMembers.{name_text};
 ghost use Rattle.keywords.specs.Rows.{row_of};
 ghost use Rattle.evaluator.specs.Notes.{needs_to_pass};
 
+use crate::tuning::KEPT_INDEXES;
 use applicators::Part;
 use basic_output::{Location, Mark, Says};
 use json_doc::Name;
@@ -34,9 +35,6 @@ pub(crate) struct Log<'a> {
     pub(crate) deep: bool,
     ghost within: { count ≤ limits.applications },
 }
-
-/// How many indexes there may be room for in what is kept.
-const MOST_INDEXES: usize = 131_072;
 
 /// The memory of a log's indexes and of the texts of its units, to be kept for the next log.
 #[derive(Drop)]
@@ -390,7 +388,7 @@ fn none_within(
 fn emptied(alloc: Global, indexes: Vec<usize>) -> Vec<usize>
     ensures { result.items ≡ [] }
 {
-    if indexes.capacity() > MOST_INDEXES {
+    if indexes.capacity() > KEPT_INDEXES {
         return Vec::new(alloc);
     }
     let mut indexes = indexes;

@@ -9,15 +9,13 @@ ghost use Rattle.evaluator.specs.Leaves.{is_leaf_mark};
 ghost use Rattle.evaluator.specs.Presents.{mark_of};
 
 use crate::applying::Evaluation;
+use crate::tuning::MOST_SILENT;
 use applicators::{Planned, Subject};
 use assertions::Assertion;
 use json_doc::{Doc, Members, Name};
 use keyword_plans::holds_of;
 use keywords::Keyword;
 use std::alloc::AllocError;
-
-/// Of a schema object with more members it isn't tried whether it passes without a word.
-const MOST: usize = 16;
 
 impl<'a> Evaluation<'a> {
     ghost use Rattle.std.specs.Prelude.{IfOk};
@@ -91,7 +89,10 @@ impl<'a> Evaluation<'a> {
             return Ok(false);
         }
         match planned.schema {
-            Doc::Dict(members) if members.len() <= MOST => self.are_met(members, planned.subject),
+            Doc::Dict(members) if members.len() <= MOST_SILENT => self.are_met(
+                members,
+                planned.subject,
+            ),
             _ => Ok(false),
         }
     }

@@ -1,23 +1,20 @@
 //! A second owner of the same value, in which keywords' names stand as the keywords.
 
-ghost use Rattle.std.specs.Prelude.{◌≡◌, true, IfOk, IfErr, OnOk, map};
+ghost use Rattle.std.specs.Prelude.{◌≡◌, true, IfOk, OnOk, map};
 ghost use Rattle.definitions.specs.Values.{are_well_formed, are_well_formed_members, is_well_formed, to_elements};
 ghost use Rattle.json_doc.specs.Docs.{value, members_value, members_view};
 
 use crate::doc::Doc;
 use crate::members::Members;
-use faults::Fault;
-use std::alloc::Global;
+use std::alloc::{AllocError, Global};
 
-/// A copy of the value, in which keywords' names stand as the keywords. The only error is want of memory,
-/// [`Fault::NoRoom`].
+/// A copy of the value, in which keywords' names stand as the keywords. The only error is want of memory.
 ///
 /// What is copied was seen whole, so the contract also says that every value that could be copied is well formed.
 #[cycle(copy)]
-pub fn copy(alloc: Global, doc: &Doc) -> Result<Doc, Fault>
+pub fn copy(alloc: Global, doc: &Doc) -> Result<Doc, AllocError>
     ensures ok { IfOk result (λ copied. value copied ≡ value doc.now) }
     ensures well_formed { OnOk result (is_well_formed (value doc.now) ≡ true) }
-    ensures err { IfErr result (λ f. f ≡ Fault.NoRoom) }
 {
     match doc {
         Doc::Null => Ok(Doc::Null),
@@ -35,11 +32,10 @@ pub fn copy(alloc: Global, doc: &Doc) -> Result<Doc, Fault>
 }
 
 #[cycle(copy)]
-fn copy_items(alloc: Global, items: &[Doc]) -> Result<Vec<Doc>, Fault>
+fn copy_items(alloc: Global, items: &[Doc]) -> Result<Vec<Doc>, AllocError>
     ensures ok { IfOk result (λ copies. map value copies.items ≡ map value items.now) }
     ensures well_formed { OnOk result
         (are_well_formed (to_elements (map value items.now)) ≡ true) }
-    ensures err { IfErr result (λ f. f ≡ Fault.NoRoom) }
 {
     let mut copies = Vec::with_capacity(alloc, items.len())?;
     for item in items {
@@ -49,10 +45,9 @@ fn copy_items(alloc: Global, items: &[Doc]) -> Result<Vec<Doc>, Fault>
 }
 
 #[cycle(copy)]
-fn copy_members(alloc: Global, members: &Members) -> Result<Members, Fault>
+fn copy_members(alloc: Global, members: &Members) -> Result<Members, AllocError>
     ensures ok { IfOk result (λ copies. members_value copies ≡ members_value members.now) }
     ensures well_formed { OnOk result (are_well_formed_members (members_view members.now) ≡ true) }
-    ensures err { IfErr result (λ f. f ≡ Fault.NoRoom) }
 {
     let mut copies = Members::new(alloc);
     for (name, member) in members.iter() {

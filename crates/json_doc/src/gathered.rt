@@ -10,13 +10,10 @@ use crate::doc::Doc;
 use crate::members::Members;
 use crate::name_map::NameMap;
 use crate::small_text::SmallText;
+use crate::tuning::MOST_MOVED;
 use std::alloc::{AllocError, Global};
 use std::collections::BTreeMap;
 use std::mem;
-
-// How many members may be there for a new one to be put between them. With more of them, moving the later ones takes
-// longer than a map does.
-const MAX_MOVED: usize = 64;
 
 /// Members of an object as they are read, in any order of names.
 ///
@@ -88,7 +85,7 @@ impl Gathered {
     #[inline(always)]
     fn would_move_many(&self, name: &str) -> bool {
         match self {
-            Gathered::Few(few) => few.len() >= MAX_MOVED && !few.ends_before(name),
+            Gathered::Few(few) => few.len() >= MOST_MOVED && !few.ends_before(name),
             Gathered::Many(_) => false,
         }
     }

@@ -13,6 +13,7 @@ mod reading;
 mod sameness;
 mod short_text;
 mod small_text;
+mod tuning;
 mod whole;
 mod writing;
 

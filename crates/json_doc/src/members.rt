@@ -1,6 +1,6 @@
 //! The members of a JSON object.
 
-ghost use Rattle.std.specs.Prelude.{◌≡◌, ◌↔◌, [], ◌∷◌, ◌++◌, IsTrue, OnOk, OnErr, IfErr, length, map, option_map};
+ghost use Rattle.std.specs.Prelude.{◌≡◌, ◌↔◌, [], ◌∷◌, ◌++◌, IsTrue, OnOk, OnErr, length, map, option_map};
 ghost use Rattle.std.specs.Iterator.{YieldsFirstBy, item_count};
 ghost use Rattle.definitions.specs.Values.{entry};
 ghost use Rattle.json_doc.specs.Docs.{value, members_value};
@@ -10,13 +10,13 @@ ghost use Rattle.json_doc.specs.SmallTexts.{short_text};
 ghost use Rattle.json_doc.specs.Members.{members_with, member_view, member_value, members_left, AreBelow, AreNotBelow, HasNamesInOrder, HasTextsAsNames};
 
 use crate::doc::Doc;
-use crate::name_map::{FEW, NameMap, split_at_name};
+use crate::name_map::{NameMap, split_at_name};
 use crate::named_members::NamedMembers;
 use crate::short_text::ShortText;
 use crate::small_text::SmallText;
-use faults::Fault;
+use crate::tuning::FEW_NAMES;
 use keywords::Keyword;
-use std::alloc::Global;
+use std::alloc::{AllocError, Global};
 use std::slice;
 
 /// The members of a JSON object: each name once, in byte order of names.
@@ -81,7 +81,7 @@ impl Members {
         ensures { option_map (λ d. value d.now) result
             ≡ entry (row_of keyword).name (members_value self.now) }
     {
-        if self.len() > FEW {
+        if self.len() > FEW_NAMES {
             return self.get(keyword.name());
         }
         self.first_value(keyword)
@@ -170,12 +170,11 @@ impl Members {
 
     /// Puts a member in, in place of the one of the same name, if there is one: the last of repeated names wins
     /// (RFC 8259, section 4). The only error is want of memory, and then the members stay as they were.
-    pub fn insert(&mut self, alloc: Global, name: &str, member: Doc) -> Result<(), Fault>
+    pub fn insert(&mut self, alloc: Global, name: &str, member: Doc) -> Result<(), AllocError>
         ensures ok { OnOk result
             (members_value self.new ≡ members_with name.now (value member)
             (members_value self.old)) }
         ensures unchanged { OnErr result (members_value self.new ≡ members_value self.old) }
-        ensures room { IfErr result (λ f. f ≡ Fault.NoRoom) }
     {
         self.entries.insert(alloc, name, member)?;
         Ok(())
@@ -189,12 +188,11 @@ impl Members {
         alloc: Global,
         name: &str,
         member: Doc,
-    ) -> Result<(), Fault>
+    ) -> Result<(), AllocError>
         ensures ok { OnOk result
             (members_value self.new ≡ members_with name.now (value member)
             (members_value self.old)) }
         ensures unchanged { OnErr result (members_value self.new ≡ members_value self.old) }
-        ensures room { IfErr result (λ f. f ≡ Fault.NoRoom) }
     {
         self.entries.insert_named(alloc, name, member)?;
         Ok(())

@@ -9,13 +9,11 @@ ghost use Rattle.json_doc.specs.NameMaps.{entry_view, entry_named, IsAbove, IsAb
 use crate::name_order::compare_names;
 use crate::short_text::ShortText;
 use crate::small_text::SmallText;
+use crate::tuning::FEW_NAMES;
 use std::alloc::{AllocError, Global};
 use std::cmp::Ordering;
 use std::collections::BTreeMap;
 use std::marker::Model;
-
-/// Up to so many names all are gone through for one whose bytes needn't be compared by a call; among more it is searched for.
-pub(crate) const FEW: usize = 16;
 
 /// Values by name: each name once, in byte order of names.
 ///
@@ -232,7 +230,7 @@ fn position_among_few<T>(entries: &[(SmallText, T)], name: &ShortText) -> Option
     requires { IsStrictlySortedBy text_cmp (keys_of entries.now) }
     ensures { IfSome result (IsPositionOf (short_text name.now) entries.now) }
 {
-    if entries.len() > FEW {
+    if entries.len() > FEW_NAMES {
         return None;
     }
     for (position, (own, _)) in entries.iter().enumerate() {

@@ -1,6 +1,6 @@
 //! From a value to its JSON text.
 
-ghost use Rattle.std.specs.Prelude.{◌≡◌, ◌≤◌, ◌++◌, Ok, true, IfOk, IfErr, OnOk, map, string_bytes};
+ghost use Rattle.std.specs.Prelude.{◌≡◌, ◌≤◌, ◌++◌, Ok, true, IfOk, OnOk, map, string_bytes};
 ghost use Rattle.definitions.specs.Values.{nesting, integer, fits_64_bits, is_well_formed, are_well_formed, are_well_formed_members, to_elements};
 ghost use Rattle.definitions.specs.Texts.{parsed_value, text};
 ghost use Rattle.json_doc.specs.Docs.{value, members_view};
@@ -9,17 +9,15 @@ ghost use Rattle.json_doc.specs.Tokens.{value_tokens, elements_tokens, members_t
 use crate::doc::Doc;
 use crate::members::Members;
 use crate::whole::Whole;
-use faults::Fault;
 use json::Writer;
 use std::alloc::{AllocError, Global};
 
 /// The value as a JSON text (RFC 8259) with no space, its names in byte order. A value that nests at most 127 deep is
-/// read back from its text. The only error is want of memory, [`Fault::NoRoom`].
-pub fn write(alloc: Global, doc: &Doc) -> Result<String, Fault>
+/// read back from its text. The only error is want of memory.
+pub fn write(alloc: Global, doc: &Doc) -> Result<String, AllocError>
     ensures text { IfOk result (λ s. string_bytes s ≡ text (value doc.now)) }
     ensures reads_back { IfOk result
         (λ s. nesting (value doc.now) ≤ 127 → parsed_value (string_bytes s) ≡ Ok (value doc.now)) }
-    ensures room { IfErr result (λ f. f ≡ Fault.NoRoom) }
 {
     let mut out = Writer::new(Vec::with_capacity(alloc, 128)?);
     write_doc(doc, &mut out)?;

@@ -12,7 +12,7 @@ fn pushed(alloc: Global) -> Result<String, Fault> {
     for token in &["a/b", "m~n", "ä b"] {
         pointer.push(token)?;
     }
-    pointer.text(alloc)
+    Ok(pointer.text(alloc)?)
 }
 
 // Whether the pointer with no tokens has no text and finds the value itself.

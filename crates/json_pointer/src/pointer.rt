@@ -1,11 +1,10 @@
 //! JSON Pointers (RFC 6901).
 
-ghost use Rattle.std.specs.Prelude.{◌≡◌, ◌-◌, [], Some, ◌∷◌, ◌++◌, IsTrue, IfOk, IfErr, OnOk, OnErr, flat_map, length, map, position, string_bytes, take};
+ghost use Rattle.std.specs.Prelude.{◌≡◌, ◌-◌, [], Some, ◌∷◌, ◌++◌, IsTrue, IfOk, OnOk, OnErr, flat_map, length, map, position, string_bytes, take};
 ghost use Rattle.definitions.specs.Bytes.{slash};
 ghost use Rattle.definitions.specs.Pointers.{escaped_byte, pointer_of, pointer_text};
 ghost use Rattle.json_pointer.specs.Escapes.{is_escaped};
 
-use faults::Fault;
 use std::alloc::{AllocError, Global};
 use std::marker::Model;
 
@@ -48,10 +47,9 @@ impl Pointer {
     }
 
     /// Puts a token last. The only error is want of memory, and then the pointer stays as it was.
-    pub fn push(&mut self, token: &str) -> Result<(), Fault>
+    pub fn push(&mut self, token: &str) -> Result<(), AllocError>
         ensures ok { OnOk result (self.new ≡ self.old ++ token.now ∷ []) }
         ensures unchanged { OnErr result (self.new ≡ self.old) }
-        ensures room { IfErr result (λ f. f ≡ Fault.NoRoom) }
     {
         let token = String::from_str(*self.tokens.allocator(), token)?;
         self.tokens.push(token)?;
@@ -67,10 +65,9 @@ impl Pointer {
 
     /// The text: each token led by a `/`, with `~` written as `~0` and `/` as `~1` (sections 3 and 5). The only error is
     /// want of memory. [`Pointer::parse`] reads it back.
-    pub fn text(&self, alloc: Global) -> Result<String, Fault>
+    pub fn text(&self, alloc: Global) -> Result<String, AllocError>
         ensures text { IfOk result (λ s. string_bytes s ≡ pointer_text self.now) }
         ensures read_back { IfOk result (λ s. pointer_of (string_bytes s) ≡ Some self.now) }
-        ensures room { IfErr result (λ f. f ≡ Fault.NoRoom) }
     {
         let mut text = String::new(alloc);
         for token in &self.tokens {

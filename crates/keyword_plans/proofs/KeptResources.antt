@@ -15,7 +15,8 @@ use Rattle.linker.specs.declared.linked_texts.LinkedTexts.{LinkedTexts}
 use Rattle.keyword_plans.specs.Held.{parts_cmp}
 use Rattle.keyword_plans.specs.Followed.{target_view}
 use Rattle.keyword_plans.specs.LinkedResources.{HasAnchor, HasResource}
-use Rattle.keyword_plans.specs.OpenedResources.{AreAnchored, AreDocuments, AreOpened, IsAnchored, IsDocument, IsOpened, Opens}
+use Rattle.keyword_plans.specs.OpenedResources.{AreAnchored, AreDocuments, AreOpened, IsAnchored, IsDocument, IsOpened}
+use Rattle.linker.specs.OpenedSchemas.{Opens}
 use Rattle.keyword_plans.specs.declared.target.Target.{Target}
 use Rattle.keyword_plans.proofs.KeptByNumber.{right_after}
 

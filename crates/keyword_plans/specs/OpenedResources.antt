@@ -1,28 +1,20 @@
 -- What was asked of the resources of linked documents.
-use Rattle.std.specs.Prelude.{◌≡◌, ℕ, [], Contains, Option, Some, IfSome, codes, find, option_and_then, option_map, slice_get}
+use Rattle.std.specs.Prelude.{◌≡◌, ℕ, Option, Some, IfSome, find, option_and_then, option_map, slice_get}
 use Rattle.std.specs.BTreeMap.{BTreeMap, get}
 use Rattle.std.specs.Borrow.{Bor}
 use Rattle.std.specs.Ordering.{nat_cmp}
 use Rattle.definitions.specs.Reach.{holds_resource}
-use Rattle.definitions.specs.Resolution.{target_uri}
 use Rattle.definitions.specs.Schemas.{Schema}
 use Rattle.definitions.specs.Targets.{schema_with_dynamic_anchor}
-use Rattle.definitions.specs.Uris.{without_fragment}
-use Rattle.definitions.specs.Values.{Text, text_at}
+use Rattle.definitions.specs.Values.{Text}
 use Rattle.linker.specs.LinkedDocuments.{linked_documents, linked_schemas}
 use Rattle.linker.specs.NumberedTexts.{numbered_texts}
+use Rattle.linker.specs.OpenedSchemas.{Opens}
 use Rattle.linker.specs.declared.linked.Linked.{Linked}
 use Rattle.linker.specs.declared.linked_texts.LinkedTexts.{LinkedTexts}
 use Rattle.keyword_plans.specs.Followed.{target_view}
 use Rattle.keyword_plans.specs.Held.{parts_cmp}
 use Rattle.keyword_plans.specs.declared.target.Target.{Target}
-
--- this schema of the documents opens its resource by the `$id`, where the resource around it has the URI
-pub record Opens (l : Linked) (s : Schema) (around id : Text) : Type 0 where
-  pub inside : Contains (linked_schemas l) s
-  pub root : s.pointer ≡ []
-  pub resource : s.resource ≡ without_fragment (target_uri around id)
-  pub has : text_at (codes "$id") s.value ≡ Some id
 
 -- where these numbers are those of a URI and of an `$id`, the schema that opens its resource so opens this one
 abbrev pub IsOpened : Linked → LinkedTexts → ℕ × ℕ → Bor Text → Type 0

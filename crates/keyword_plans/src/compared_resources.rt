@@ -10,18 +10,14 @@ ghost use Rattle.linker.specs.ReferenceNumbers.{StandsIn, document_at};
 ghost use Rattle.linker.specs.ValueSets.{value_set};
 ghost use Rattle.keyword_plans.specs.Followed.{target_view};
 ghost use Rattle.keyword_plans.specs.LinkedResources.{HasAnchor, HasNumber, HasResource};
-ghost use Rattle.keyword_plans.specs.OpenedResources.{IsDocument, Opens};
+ghost use Rattle.keyword_plans.specs.OpenedResources.{IsDocument};
+ghost use Rattle.linker.specs.OpenedSchemas.{Opens};
 
-use crate::numbered_resources::{NumberedResources, resource_opened};
+use crate::numbered_resources::NumberedResources;
 use crate::target::{Target, dynamically_anchored};
+use crate::tuning::{COMPARED_FIRST, COMPARED_TIMES};
 use linker::Linked;
 use std::alloc::{AllocError, Global};
-
-/// So many bytes are compared before it is asked how many the texts have.
-const MANY: usize = 67_108_864;
-
-/// So many times the bytes of all texts are compared before the texts are numbered: that takes longer than to compare them.
-const TIMES: usize = 64;
 
 /// The resources of linked documents, which are told by their URIs and by the `$id`s that open them.
 ///
@@ -51,7 +47,7 @@ impl<'a> ComparedResources<'a> {
         ComparedResources {
             linked,
             compared: 0,
-            enough: MANY,
+            enough: COMPARED_FIRST,
             numbered: None,
             likely: 0,
         }
@@ -74,7 +70,7 @@ impl<'a> ComparedResources<'a> {
         self.compare(alloc, around.len().saturating_add(id.len()))?;
         match &mut self.numbered {
             Some(numbered) => numbered.opened(alloc, around, id),
-            None => resource_opened(alloc, self.linked, around, id),
+            None => self.linked.resource_opened(alloc, around, id),
         }
     }
 
@@ -182,7 +178,7 @@ impl<'a> ComparedResources<'a> {
     fn number(&mut self, alloc: Global) -> Result<(), AllocError>
         ensures linked { compared_in self.new ≡ compared_in self.old }
     {
-        self.enough = self.linked.text_bytes().saturating_mul(TIMES);
+        self.enough = self.linked.text_bytes().saturating_mul(COMPARED_TIMES);
         if self.compared >= self.enough {
             let numbered = NumberedResources::of(alloc, self.linked)?;
             self.numbered = Some(Box::new(alloc, numbered)?);

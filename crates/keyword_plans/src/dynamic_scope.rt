@@ -1,6 +1,6 @@
 //! The dynamic scope, and what references name in it.
 
-ghost use Rattle.std.specs.Prelude.{◌≡◌, ◌<◌, ◌++◌, [], ◌∷◌, Contains, List, Some, IfOk, IfErr, IfSome, OnOk, is_none, length, map, option_map, true, unwrap_or};
+ghost use Rattle.std.specs.Prelude.{◌≡◌, ◌<◌, ◌++◌, [], ◌∷◌, Contains, List, Some, IfOk, IfSome, OnOk, is_none, length, map, option_map, true, unwrap_or};
 ghost use Rattle.std.specs.List.{All};
 ghost use Rattle.std.proofs.Props.{props};
 ghost use Rattle.definitions.specs.Resolution.{target_uri};
@@ -13,17 +13,15 @@ ghost use Rattle.linker.specs.declared.linked.Linked.{Linked};
 ghost use Rattle.keyword_plans.specs.Followed.{HasFollowedAnchor, Refers, followed_in_scope, target_view};
 ghost use Rattle.keyword_plans.specs.FollowedIn.{followed_in};
 ghost use Rattle.keyword_plans.specs.LinkedResources.{HasAnchor, HasNumber, HasResources};
-ghost use Rattle.keyword_plans.specs.OpenedResources.{Opens};
+ghost use Rattle.linker.specs.OpenedSchemas.{Opens};
 ghost use Rattle.keyword_plans.specs.Searched.{IsSearched};
 ghost use Rattle.linker.specs.ValueSets.{value_set};
 
 use crate::followed_references::{Followed, FollowedReferences};
 use crate::target::{Target, again};
+use crate::tuning::KEPT_ANCHORS;
 use linker::Linked;
 use std::alloc::{AllocError, Global};
-
-/// How many dynamic anchors are kept.
-const MOST_KEPT: usize = 16;
 
 /// A dynamic anchor that was looked for in the scope: so many resources are passed, from the outermost on, that don't have it;
 /// and the schema with the anchor in the next one, where that has it.
@@ -280,11 +278,11 @@ impl<'a> DynamicScope<'a> {
         match position(&self.searched, &searched) {
             Some(at) => self.searched[at] = searched,
             None => {
-                if self.searched.len() < MOST_KEPT {
+                if self.searched.len() < KEPT_ANCHORS {
                     self.searched.push(searched)?;
                 } else {
                     self.searched[self.oldest] = searched;
-                    self.oldest = (self.oldest + 1) % MOST_KEPT;
+                    self.oldest = (self.oldest + 1) % KEPT_ANCHORS;
                 }
             }
         }

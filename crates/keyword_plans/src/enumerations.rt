@@ -1,6 +1,6 @@
 //! The values of long `enum`s, sorted.
 
-ghost use Rattle.std.specs.Prelude.{◌≡◌, Some, IfOk, IfErr, IfSome, Contains, codes, length, option_map};
+ghost use Rattle.std.specs.Prelude.{◌≡◌, Some, IfOk, IfSome, Contains, codes, length, option_map};
 ghost use Rattle.std.specs.Cmp.Lexicographic.{slice_cmp};
 ghost use Rattle.std.specs.List.{All, HoldsAt};
 ghost use Rattle.std.specs.List.Sorted.{IsSearchInRange};
@@ -18,22 +18,16 @@ ghost use Rattle.keyword_plans.specs.Places.{steps_order};
 ghost use Rattle.applicators.specs.Subjects.{subject_value};
 
 use crate::places::{compare_steps, pointer_to};
+use crate::tuning::{FEW_VALUES, MOST_WALKED};
 use crate::verdict::holds_of;
 use applicators::Subject;
 use assertions::Assertion;
-use faults::Fault;
 use json_doc::Doc;
 use linker::Linked;
 use locations::Step;
 use std::alloc::{AllocError, Global};
 use std::cmp::Ordering;
 use value_order::SortedValues;
-
-/// So many values of an `enum` are always looked at one after the other.
-const FEW: usize = 64;
-
-/// So many values of longer ones are looked at one after the other in an evaluation, before they are sorted.
-const MOST_WALKED: usize = 1_048_576;
 
 /// The values of the `enum` of the schema with this identity: the URI of its resource, and the steps from that resource's root.
 #[derive(Drop)]
@@ -144,7 +138,7 @@ impl<'a> Enumerations<'a> {
         ensures { enumerated_in self.new ≡ enumerated_in self.old }
     {
         let count = count_of(values);
-        if count <= FEW {
+        if count <= FEW_VALUES {
             return true;
         }
         if count > self.left {
@@ -166,11 +160,8 @@ impl<'a> Enumerations<'a> {
         ensures placed { IfOk result
             (λ o. IfSome o (IsPlacedAt resource.now (tokens steps.now))) }
     {
-        let values = match self.values(alloc, resource, steps) {
-            Ok(Some(values)) => values,
-            Ok(None) => return Ok(None),
-            // Want of memory is the only fault.
-            Err(_) => return Err(AllocError),
+        let Some(values) = self.values(alloc, resource, steps)? else {
+            return Ok(None);
         };
         match sorted(alloc, values)? {
             Some(values) => Ok(Some(Enumeration {
@@ -188,11 +179,10 @@ impl<'a> Enumerations<'a> {
         alloc: Global,
         resource: &str,
         steps: &[Step<'_>],
-    ) -> Result<Option<&'a Doc>, Fault>
-        ensures ok { (s : Schema) → Contains (linked_schemas self.now.linked.now) s
+    ) -> Result<Option<&'a Doc>, AllocError>
+        ensures { (s : Schema) → Contains (linked_schemas self.now.linked.now) s
             → identity s ≡ (resource.now, tokens steps.now)
             → IfOk result (λ o. option_map (λ d. value d.now) o ≡ get (codes "enum") s.value) }
-        ensures err { IfErr result (λ f. f ≡ Fault.NoRoom) }
     {
         match self
             .linked

@@ -1,6 +1,6 @@
 //! What the references that were followed last name.
 
-ghost use Rattle.std.specs.Prelude.{◌≡◌, ◌<◌, Contains, List, Some, IfOk, IfErr, IfSome, option_map};
+ghost use Rattle.std.specs.Prelude.{◌≡◌, ◌<◌, Contains, List, Some, IfOk, IfSome, option_map};
 ghost use Rattle.std.specs.List.{All};
 ghost use Rattle.std.proofs.Props.{props};
 ghost use Rattle.definitions.specs.Resolution.{target_uri};
@@ -17,19 +17,10 @@ ghost use Rattle.linker.specs.ValueSets.{value_set};
 
 use crate::compared_resources::ComparedResources;
 use crate::target::Target;
+use crate::tuning::{APART, MOST_SHORT, SHORT_REFERENCE};
 use linker::{Linked, ReferenceNumber};
 use std::alloc::{AllocError, Global};
 use std::collections::BTreeMap;
-
-/// How many short references are kept.
-const MOST_SHORT: usize = 64;
-
-/// How far apart the places of two documents' first references are; odd, so that sixty-four documents have a place each.
-const APART: usize = 11;
-
-/// With so many bytes in its text and in the URI of its resource a reference is short: what it names is found about as fast as
-/// among those that are kept by their numbers.
-const SHORT: usize = 128;
 
 /// What a reference names first (JSON Schema 2020-12 Core, 8.2.3).
 #[derive(Drop)]
@@ -66,7 +57,7 @@ pub struct FollowedReferences<'a> {
 impl<'a> FollowedReferences<'a> {
     ghost use Rattle.keyword_plans.specs.FollowedIn.{followed_in};
     ghost use Rattle.keyword_plans.specs.LinkedResources.{HasAnchor, HasNumber, HasResource};
-    ghost use Rattle.keyword_plans.specs.OpenedResources.{Opens};
+    ghost use Rattle.linker.specs.OpenedSchemas.{Opens};
 
     /// None yet. This takes no memory.
     pub fn new(alloc: Global, linked: &'a Linked) -> FollowedReferences<'a>
@@ -299,7 +290,7 @@ impl<'a> FollowedReferences<'a> {
 
 // Whether a reference in the resource of this URI is short.
 fn is_short(resource: &str, reference: &str) -> bool {
-    resource.len() <= SHORT && reference.len() <= SHORT - resource.len()
+    resource.len() <= SHORT_REFERENCE && reference.len() <= SHORT_REFERENCE - resource.len()
 }
 
 // The place of a short reference among those that are kept. Those of one document stand side by side, and those of others apart.
@@ -325,14 +316,12 @@ fn named_first<'a>(
         (target_uri resource.now reference.now) n) }
     ensures anchored { IfOk result (HasFollowedAnchor linked.entry.now) }
 {
-    match linked.named(alloc, number, resource, reference) {
-        Ok(Some(named)) => Ok(Some(Followed {
+    match linked.named(alloc, number, resource, reference)? {
+        Some(named) => Ok(Some(Followed {
             target: Target::of(alloc, named.target)?,
             anchor: named.anchor,
         })),
-        Ok(None) => Ok(None),
-        // Want of memory is the only fault.
-        Err(_) => Err(AllocError),
+        None => Ok(None),
     }
 }
 

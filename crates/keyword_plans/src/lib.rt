@@ -12,11 +12,11 @@ mod planning;
 mod searches;
 mod site;
 mod target;
+mod tuning;
 mod verdict;
 
 pub use dynamic_scope::DynamicScope;
 pub use enumerations::Enumerations;
-pub use faults::Fault;
 pub use followed_references::FollowedReferences;
 pub use planning::{plan, surely_applies_nothing};
 pub use searches::Searches;

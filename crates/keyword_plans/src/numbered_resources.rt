@@ -9,7 +9,8 @@ ghost use Rattle.linker.specs.ValueSets.{value_set};
 ghost use Rattle.linker.specs.NumberedTexts.{AreTold, telling_texts};
 ghost use Rattle.keyword_plans.specs.Followed.{target_view};
 ghost use Rattle.keyword_plans.specs.LinkedResources.{HasAnchor, HasResource};
-ghost use Rattle.keyword_plans.specs.OpenedResources.{AreAnchored, AreDocuments, AreOpened, IsDocument, Opens};
+ghost use Rattle.keyword_plans.specs.OpenedResources.{AreAnchored, AreDocuments, AreOpened, IsDocument};
+ghost use Rattle.linker.specs.OpenedSchemas.{Opens};
 
 use crate::target::{Target, again, dynamically_anchored};
 use linker::{Linked, LinkedTexts};
@@ -80,7 +81,7 @@ impl<'a> NumberedResources<'a> {
             → IfOk result (λ uri. uri.now ≡ s.resource) }
         ensures linked { self.new.linked ≡ self.old.linked }
     {
-        let uri = resource_opened(alloc, self.linked, around, id)?;
+        let uri = self.linked.resource_opened(alloc, around, id)?;
         if self.texts.is(numbers.0, around) && self.texts.is(numbers.1, id) {
             self.opened.insert(numbers, uri)?;
         }
@@ -165,22 +166,5 @@ impl<'a> NumberedResources<'a> {
             self.anchored.insert(numbers, kept)?;
         }
         Ok(found)
-    }
-}
-
-/// The URI of the resource that a schema opens by this `$id`, where the resource around it has this URI: both are compared.
-pub(crate) fn resource_opened<'a>(
-    alloc: Global,
-    linked: &'a Linked,
-    around: &str,
-    id: &str,
-) -> Result<&'a str, AllocError>
-    ensures { (s : Schema) → Opens linked.entry.now s around.now id.now
-        → IfOk result (λ uri. uri.now ≡ s.resource) }
-{
-    match linked.resource_opened(alloc, around, id) {
-        Ok(uri) => Ok(uri),
-        // Want of memory is the only fault.
-        Err(_) => Err(AllocError),
     }
 }

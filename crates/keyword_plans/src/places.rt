@@ -1,6 +1,6 @@
 //! The places of schemas in a resource, by the steps that lead to them.
 
-ghost use Rattle.std.specs.Prelude.{◌≡◌, ◌∷◌, ◌++◌, [], IfOk, OnOk, IfErr};
+ghost use Rattle.std.specs.Prelude.{◌≡◌, ◌∷◌, ◌++◌, [], IfOk, OnOk};
 ghost use Rattle.locations.specs.Steps.{token, tokens};
 ghost use Rattle.keyword_plans.specs.Places.{index_order, name_order, step_order, steps_order};
 
@@ -75,21 +75,11 @@ fn push_token_of(pointer: &mut Pointer, step: Step<'_>) -> Result<(), AllocError
     ensures { OnOk result (pointer.new ≡ pointer.old ++ token step.entry ∷ []) }
 {
     match step {
-        Step::Name(name) => push_token(pointer, name),
+        Step::Name(name) => pointer.push(name),
         Step::Index(index) => {
             let mut digits = itoa::Buffer::new();
-            push_token(pointer, digits.format(index))
+            pointer.push(digits.format(index))
         }
-        Step::Keyword(keyword) => push_token(pointer, keyword.name()),
-    }
-}
-
-fn push_token(pointer: &mut Pointer, token: &str) -> Result<(), AllocError>
-    ensures { OnOk result (pointer.new ≡ pointer.old ++ token.now ∷ []) }
-{
-    match pointer.push(token) {
-        Ok(_) => Ok(()),
-        // Want of memory is the only fault.
-        Err(_) => Err(AllocError),
+        Step::Keyword(keyword) => pointer.push(keyword.name()),
     }
 }

@@ -1,6 +1,6 @@
 //! What each keyword applies, to which part of the instance.
 
-ghost use Rattle.std.specs.Prelude.{◌≡◌, ◌≤◌, [], ℕ, List, Some, Contains, false, true, IfErr, OnOk, map, option_map};
+ghost use Rattle.std.specs.Prelude.{◌≡◌, ◌≤◌, [], ℕ, List, Some, Contains, false, true, OnOk, map, option_map};
 ghost use Rattle.definitions.specs.Values.{Text, Value, get};
 ghost use Rattle.definitions.specs.Applied.{Application, Outcome, condition_outcome, keyword_applications};
 ghost use Rattle.json_doc.specs.Docs.{value};

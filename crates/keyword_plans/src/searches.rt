@@ -18,14 +18,12 @@ ghost use Rattle.patterns.specs.HeldPatterns.{held_text};
 
 use crate::compared_resources::ComparedResources;
 use crate::numbered_pattern::NumberedPattern;
+use crate::tuning::SHORT_PATTERN;
 use linker::{Linked, PatternNumber};
 use patterns::HeldPattern;
 use std::alloc::{AllocError, Global};
 use std::collections::BTreeMap;
 use std::mem::replace;
-
-/// To compare a text of so many bytes takes no longer than to hold its pattern.
-const SHORT: usize = 64;
 
 /// The patterns of more than 64 bytes that an evaluation searched for in linked documents, by their numbers. They are held, so
 /// that to search for one again doesn't look at its text.
@@ -89,7 +87,7 @@ impl<'a> Searches<'a> {
             → IfOk result (λ found. found ≡ has_match (name_text pattern.now.pattern) text.now) }
         ensures linked { searched_in self.new ≡ searched_in self.old }
     {
-        if pattern.pattern.as_str().len() > SHORT {
+        if pattern.pattern.as_str().len() > SHORT_PATTERN {
             self.numbered(pattern.number, text)
         } else {
             is_numbered_match(self.alloc, self.linked, pattern.number, text)
@@ -116,7 +114,7 @@ impl<'a> Searches<'a> {
         ensures linked { searched_in self.new ≡ searched_in self.old }
     {
         match self.number(resource, pattern)? {
-            Some(number) if pattern.len() > SHORT => self.numbered(number, text),
+            Some(number) if pattern.len() > SHORT_PATTERN => self.numbered(number, text),
             Some(number) => is_numbered_match(self.alloc, self.linked, number, text),
             // Never: a schema of the resource has the pattern.
             None => Ok(false),

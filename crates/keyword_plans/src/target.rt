@@ -63,11 +63,9 @@ pub(crate) fn dynamically_anchored<'a>(
         (λ t. option_map target_view t
         ≡ schema_with_dynamic_anchor (linked_schemas linked.entry.now) uri.now name.now) }
 {
-    match linked.dynamically_anchored(alloc, uri, name) {
-        Ok(Some(schema)) => Ok(Some(Target::of(alloc, schema)?)),
-        Ok(None) => Ok(None),
-        // Want of memory is the only fault.
-        Err(_) => Err(AllocError),
+    match linked.dynamically_anchored(alloc, uri, name)? {
+        Some(schema) => Ok(Some(Target::of(alloc, schema)?)),
+        None => Ok(None),
     }
 }
 

@@ -1,6 +1,6 @@
 //! Whether a keyword passes.
 
-ghost use Rattle.std.specs.Prelude.{◌≡◌, ◌||◌, ℕ, List, Option, Some, true, IfOk, IfErr, codes, count_by, length, nat_lt, not, option_map};
+ghost use Rattle.std.specs.Prelude.{◌≡◌, ◌||◌, ℕ, List, Option, Some, true, IfOk, codes, count_by, length, nat_lt, not, option_map};
 ghost use Rattle.assertions.specs.AssertionView.{assertion_view};
 ghost use Rattle.definitions.specs.Values.{Text, get, integer, is_array, string};
 ghost use Rattle.definitions.specs.Assertions.{holds, is_at_least, is_at_most};

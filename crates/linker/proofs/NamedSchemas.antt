@@ -1,10 +1,10 @@
 -- What references name, by what they are read as.
-use Rattle.std.proofs.Common.{◌≡◌, ◌&&◌, List, [], true, None, Some, Ok, Err, Result, IsTrue, is_err, is_some, Contains, find, option_map, string_bytes, refl, sym, ap, ◌∙◌}
+use Rattle.std.proofs.Common.{◌≡◌, ◌&&◌, List, [], true, None, Some, Ok, Err, IfSome, Option, Result, IsTrue, is_err, is_some, Contains, find, option_map, string_bytes, refl, sym, ap, ◌∙◌}
 use Rattle.definitions.specs.Faults.{Fault}
 use Rattle.std.proofs.lemmas.Bool.{and_from}
 use Rattle.definitions.specs.Fragments.{Fragment, plain_name}
 use Rattle.definitions.specs.Schemas.{Schema}
-use Rattle.definitions.specs.Targets.{resource_root, fragment_of, is_anchor, is_dynamic_anchor, target_by, target_in, target, dynamic_by, dynamic_target}
+use Rattle.definitions.specs.Targets.{resource_root, fragment_of, is_anchor, is_dynamic_anchor, target_by, target_in, target, dynamic_by}
 use Rattle.definitions.specs.Uris.{without_fragment}
 use Rattle.definitions.specs.Values.{Text, same_text}
 use Rattle.uri_ref.specs.FragmentViews.{fragment_view}
@@ -14,9 +14,11 @@ use Rattle.definition_laws.proofs.Roots.{roots_found, pointer_root}
 use Rattle.lemmas.proofs.Options.{some_from_is_some}
 use Rattle.lemmas.proofs.Texts.{same_text_itself}
 use Rattle.linker.specs.AbsoluteReferences.{target_of, dynamic_target_of}
-use Rattle.linker.specs.DynamicTargets.{has_anchor, is_anchored}
+use Rattle.linker.specs.DynamicTargets.{HasItsAnchor, IsNamedBy, first_target, has_anchor, is_anchored, target_in_scope}
 use Rattle.linker.specs.LinkedDocuments.{linked_documents, linked_schemas}
 use Rattle.linker.specs.declared.linked.Linked.{Linked}
+use Rattle.linker.specs.declared.named.Named.{Named}
+use Rattle.uri_ref.specs.AbsoluteReferences.{IsReadAs}
 use Rattle.linker.proofs.Adding.{is_some-find}
 use Rattle.uri_ref.specs.declared.absolute_references.AbsoluteReference.{AbsoluteReference}
 
@@ -25,22 +27,27 @@ no_target table uri (Ok f) e = absurd (cc)
 no_target table uri (Err f) e = refl
 
 -- a reference whose fragment can't be read names nothing
-pub unread : (table : List Schema) (text : Text) → IsTrue (is_err (fragment_of text)) → None ≡ target table text
-unread table text e = no_target table (without_fragment text) (fragment_of text) e
-
-pub unread_dynamic : (table : List Schema) (scope : List Text) (text : Text) → IsTrue (is_err (fragment_of text)) → None ≡ dynamic_target table scope text
-unread_dynamic table scope text e = ap (option_map (λ first. dynamic_by table scope first (fragment_of text))) (unread table text e)
+pub unread : (table : List Schema) (text : Text) → IsReadAs text None → IsNamedBy table text None
+unread table text e =
+    let nothing = no_target table (without_fragment text) (fragment_of text) e in
+    record {
+      first = nothing;
+      dynamic = λ scope. ap (option_map (λ first. dynamic_by table scope first (fragment_of text))) nothing;
+      anchored = tt;
+    }
 
 -- and one that is read names what it is read as
-pub read : (table : List Schema) (text : Text) (r : AbsoluteReference) → string_bytes r.uri ≡ without_fragment text → fragment_of text ≡ Ok (fragment_view r.fragment)
-    → target_of table r ≡ target table text
-read table text r e f = ap (λ u. target_in table u (Ok (fragment_view r.fragment))) e ∙ ap (target_in table (without_fragment text)) (sym f)
-
-pub read_dynamic : (table : List Schema) (scope : List Text) (text : Text) (r : AbsoluteReference) → string_bytes r.uri ≡ without_fragment text
-    → fragment_of text ≡ Ok (fragment_view r.fragment) → dynamic_target_of table scope r ≡ dynamic_target table scope text
-read_dynamic table scope text r e f =
-    ap (option_map (λ first. dynamic_by table scope first (Ok (fragment_view r.fragment)))) (read table text r e f)
-    ∙ ap (λ kind. option_map (λ first. dynamic_by table scope first kind) (target table text)) (sym f)
+pub read : (table : List Schema) (text : Text) (r : AbsoluteReference) (n : Option Named) → IsReadAs text (Some r) → option_map first_target n ≡ target_of table r
+    → ((scope : List Text) → option_map (target_in_scope table scope) n ≡ dynamic_target_of table scope r) → IfSome n (HasItsAnchor table) → IsNamedBy table text n
+read table text r n is first dynamic anchored =
+    let same = ap (λ u. target_in table u (Ok (fragment_view r.fragment))) is.0 ∙ ap (target_in table (without_fragment text)) (sym is.1) in
+    record {
+      first = first ∙ same;
+      dynamic = λ scope. dynamic scope
+      ∙ ap (option_map (λ first. dynamic_by table scope first (Ok (fragment_view r.fragment)))) same
+      ∙ ap (λ kind. option_map (λ first. dynamic_by table scope first kind) (target table text)) (sym is.1);
+      anchored = anchored;
+    }
 
 -- one of the schemas has the plain name that names this one, where that is its dynamic anchor
 pub anchor_there : (table : List Schema) (uri name : Text) (s : Schema) → target_by table uri (plain_name name) ≡ Some s → is_dynamic_anchor name s ≡ true

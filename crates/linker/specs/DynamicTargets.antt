@@ -3,7 +3,7 @@ use Rattle.std.specs.Prelude.{◌≡◌, List, Bool, Option, Some, None, IfSome,
 use Rattle.std.specs.List.{list_any}
 use Rattle.definitions.specs.Values.{Text}
 use Rattle.definitions.specs.Schemas.{Schema}
-use Rattle.definitions.specs.Targets.{is_dynamic_anchor, outermost, schema_with_dynamic_anchor}
+use Rattle.definitions.specs.Targets.{dynamic_target, is_dynamic_anchor, outermost, schema_with_dynamic_anchor, target}
 use Rattle.schema_scan.specs.Locateds.{located_view}
 use Rattle.linker.specs.declared.named.Named.{Named}
 
@@ -31,3 +31,9 @@ has_anchor table name = list_any (is_dynamic_anchor name) table
 -- one of the schemas has the anchor by which it names that schema
 abbrev pub HasItsAnchor : List Schema → Named → Type 0
 HasItsAnchor table n = IfSome n.anchor (λ a. has_anchor table a.now ≡ true)
+
+-- it is what the reference with this text names, as it stands and in each dynamic scope, and it has its anchor
+pub record IsNamedBy (table : List Schema) (text : Text) (n : Option Named) : Type 0 where
+  pub first : option_map first_target n ≡ target table text
+  pub dynamic : (scope : List Text) → option_map (target_in_scope table scope) n ≡ dynamic_target table scope text
+  pub anchored : IfSome n (HasItsAnchor table)

@@ -2,6 +2,7 @@ pub mod SharedDocuments
 pub mod LinkedDocuments
 pub mod AbsoluteReferences
 pub mod DynamicTargets
+pub mod OpenedSchemas
 pub mod Sources
 pub mod ListedDocuments
 pub mod Positions

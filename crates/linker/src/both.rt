@@ -7,9 +7,8 @@ ghost use Rattle.linker.specs.Sources.{shares_resource};
 ghost use Rattle.linker.specs.Together.{together_sound};
 
 use crate::source::Source;
-use faults::Fault;
 use schema_scan::Compiled;
-use std::alloc::Global;
+use std::alloc::{AllocError, Global};
 use std::rc::Rc;
 
 /// The documents of two sources that share no resource.
@@ -34,7 +33,7 @@ impl<A: Source, B: Source> Both<A, B> {
 impl<A: Source, B: Source> Source for Both<A, B> {
     ghost documents = { λ b. documents_of_both (B.documents b.second) (A.documents b.first) };
 
-    fn holding(&mut self, alloc: Global, resource: &str) -> Result<Option<Rc<Compiled>>, Fault> {
+    fn holding(&mut self, alloc: Global, resource: &str) -> Result<Option<Rc<Compiled>>, AllocError> {
         match self.first.holding(alloc, resource)? {
             Some(document) => Ok(Some(document)),
             None => self.second.holding(alloc, resource),

@@ -1,6 +1,6 @@
 //! What linked documents are.
 
-ghost use Rattle.std.specs.Prelude.{◌≡◌, IfErr, IfOk, map, option_map, string_bytes};
+ghost use Rattle.std.specs.Prelude.{◌≡◌, IfOk, map, option_map, string_bytes};
 ghost use Rattle.std.specs.Cmp.Lexicographic.{slice_cmp};
 ghost use Rattle.std.specs.List.Sorted.{IsStrictlySortedBy};
 ghost use Rattle.std.specs.Ordering.{nat_cmp};
@@ -11,20 +11,18 @@ ghost use Rattle.linker.specs.SharedDocuments.{shared_documents};
 
 use crate::insertion::position;
 use crate::linked::Linked;
-use faults::Fault;
 use json_doc::Doc;
 use schema_scan::{Compiled, canonical};
-use std::alloc::Global;
+use std::alloc::{AllocError, Global};
 use std::rc::Rc;
 
 /// The canonical URIs of the linked documents (JSON Schema 2020-12 Core, section 8.2.1), in byte order, each once. The only
 /// error is want of memory.
-pub fn reached(alloc: Global, linked: &Linked) -> Result<Vec<String>, Fault>
+pub fn reached(alloc: Global, linked: &Linked) -> Result<Vec<String>, AllocError>
     ensures ok { IfOk result
         (λ uris. map string_bytes uris.items ≡ canonicals (linked_documents linked.now)) }
     ensures ascending { IfOk result
         (λ uris. IsStrictlySortedBy (slice_cmp nat_cmp) (map string_bytes uris.items)) }
-    ensures err { IfErr result (λ f. f ≡ Fault.NoRoom) }
 {
     canonical_uris(alloc, &linked.documents)
 }
@@ -56,10 +54,9 @@ pub fn value_of<'a>(linked: &'a Linked, canonical: &str) -> Option<&'a Doc>
     }
 }
 
-fn canonical_uris(alloc: Global, documents: &[Rc<Compiled>]) -> Result<Vec<String>, Fault>
-    ensures ok { IfOk result
+fn canonical_uris(alloc: Global, documents: &[Rc<Compiled>]) -> Result<Vec<String>, AllocError>
+    ensures { IfOk result
         (λ uris. map string_bytes uris.items ≡ canonicals (shared_documents documents.now)) }
-    ensures err { IfErr result (λ f. f ≡ Fault.NoRoom) }
 {
     let mut uris = Vec::with_capacity(alloc, documents.len())?;
     for document in documents {

@@ -1,15 +1,14 @@
 //! The resources of linked documents, by the names of their dynamic anchors.
 
-ghost use Rattle.std.specs.Prelude.{◌≡◌, IfErr, IfOk, is_some};
+ghost use Rattle.std.specs.Prelude.{◌≡◌, IfOk, is_some};
 ghost use Rattle.definitions.specs.Schemas.{table_of};
 ghost use Rattle.definitions.specs.Targets.{schema_with_dynamic_anchor};
 ghost use Rattle.definitions.specs.Values.{Text};
 ghost use Rattle.linker.specs.SharedDocuments.{shared_documents};
 ghost use Rattle.schema_scan.specs.DynamicResources.{has_resource};
 
-use faults::Fault;
 use schema_scan::Compiled;
-use std::alloc::Global;
+use std::alloc::{AllocError, Global};
 use std::collections::{BTreeMap, BTreeSet};
 use std::rc::Rc;
 
@@ -17,11 +16,10 @@ use std::rc::Rc;
 pub(crate) fn dynamic_resources_of(
     alloc: Global,
     documents: &[Rc<Compiled>],
-) -> Result<BTreeMap<String, BTreeSet<String>>, Fault>
-    ensures ok { IfOk result (λ resources. (uri name : Text)
+) -> Result<BTreeMap<String, BTreeSet<String>>, AllocError>
+    ensures { IfOk result (λ resources. (uri name : Text)
         → has_resource resources uri name ≡ is_some
         (schema_with_dynamic_anchor (table_of (shared_documents documents.now)) uri name)) }
-    ensures err { IfErr result (λ f. f ≡ Fault.NoRoom) }
 {
     let mut resources = BTreeMap::new(alloc);
     for document in documents {

@@ -1,6 +1,6 @@
 //! References without a target (JSON Schema 2020-12 Core, section 8.2.3).
 
-ghost use Rattle.std.specs.Prelude.{◌≡◌, ◌++◌, List, Some, false, IfErr, IfOk, if◌then◌else◌, is_some, option_map};
+ghost use Rattle.std.specs.Prelude.{◌≡◌, ◌++◌, List, Some, false, IfOk, if◌then◌else◌, is_some, option_map};
 ghost use Rattle.definitions.specs.Fragments.{fragment_kind};
 ghost use Rattle.definitions.specs.Reach.{least, lesser, missing_references};
 ghost use Rattle.definitions.specs.Schemas.{table_of};
@@ -16,7 +16,7 @@ use crate::compound_documents::CompoundDocuments;
 use crate::holders::holder;
 use faults::Fault;
 use schema_scan::Compiled;
-use std::alloc::Global;
+use std::alloc::{AllocError, Global};
 use std::cmp::Ordering;
 use std::rc::Rc;
 use uri_ref::{fragment_kind, split, without_fragment};
@@ -27,12 +27,11 @@ fn names_schema(
     documents: &[Rc<Compiled>],
     compound: &CompoundDocuments,
     reference: &str,
-) -> Result<bool, Fault>
+) -> Result<bool, AllocError>
     requires { AreSearchable (shared_documents documents.now) (compound_documents compound.now) }
-    ensures ok { IfOk result
+    ensures { IfOk result
         (λ named. named ≡ is_some
         (target (table_of (shared_documents documents.now)) reference.now)) }
-    ensures err { IfErr result (λ f. f ≡ Fault.NoRoom) }
 {
     let uri = without_fragment(reference);
     match holder(documents, compound, uri) {
@@ -47,16 +46,15 @@ fn names_in(
     document: &Compiled,
     uri: &str,
     fragment: Option<&str>,
-) -> Result<bool, Fault>
-    ensures ok { IfOk result
+) -> Result<bool, AllocError>
+    ensures { IfOk result
         (λ named. named ≡ is_some
         (target_in (compiled_schemas document.now) uri.now
         (fragment_kind (option_map (λ t. t.now) fragment.entry)))) }
-    ensures err { IfErr result (λ f. f ≡ Fault.NoRoom) }
 {
     match fragment_kind(alloc, fragment) {
         Ok(kind) => Ok(document.target(alloc, uri, &kind)?.is_some()),
-        Err(Fault::NoRoom) => Err(Fault::NoRoom),
+        Err(Fault::NoRoom) => Err(AllocError),
         Err(_) => Ok(false),
     }
 }
@@ -66,12 +64,11 @@ pub(crate) fn least_missing<'a>(
     alloc: Global,
     documents: &'a [Rc<Compiled>],
     compound: &CompoundDocuments,
-) -> Result<Option<&'a str>, Fault>
+) -> Result<Option<&'a str>, AllocError>
     requires { AreSearchable (shared_documents documents.now) (compound_documents compound.now) }
-    ensures ok { IfOk result
+    ensures { IfOk result
         (λ t. option_map (λ t. t.now) t
         ≡ least (missing_references (shared_documents documents.now))) }
-    ensures err { IfErr result (λ f. f ≡ Fault.NoRoom) }
 {
     let mut found = None;
     for document in documents {
@@ -87,13 +84,12 @@ fn least_missing_of<'a>(
     compound: &CompoundDocuments,
     document: &'a Compiled,
     found: Option<&'a str>,
-) -> Result<Option<&'a str>, Fault>
+) -> Result<Option<&'a str>, AllocError>
     requires { AreSearchable (shared_documents documents.now) (compound_documents compound.now) }
-    ensures ok { (before : List Text) → option_map (λ t. t.now) found.entry ≡ least before
+    ensures { (before : List Text) → option_map (λ t. t.now) found.entry ≡ least before
         → IfOk result (λ t. option_map (λ t. t.now) t
         ≡ least (before ++ missing_in (shared_documents documents.now)
         (compiled_view document.now))) }
-    ensures err { IfErr result (λ f. f ≡ Fault.NoRoom) }
 {
     let mut least = found;
     for reference in document.references() {
@@ -109,14 +105,13 @@ fn least_with<'a>(
     compound: &CompoundDocuments,
     reference: &'a str,
     found: Option<&'a str>,
-) -> Result<Option<&'a str>, Fault>
+) -> Result<Option<&'a str>, AllocError>
     requires { AreSearchable (shared_documents documents.now) (compound_documents compound.now) }
-    ensures ok { IfOk result
+    ensures { IfOk result
         (λ t. option_map (λ t. t.now) t
         ≡ (if is_some (target (table_of (shared_documents documents.now))
         reference.now) then option_map (λ t. t.now) found.entry else Some
         (lesser reference.now (option_map (λ t. t.now) found.entry)))) }
-    ensures err { IfErr result (λ f. f ≡ Fault.NoRoom) }
 {
     if names_schema(alloc, documents, compound, reference)? {
         Ok(found)

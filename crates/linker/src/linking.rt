@@ -23,7 +23,7 @@ use crate::target_documents::target_documents;
 use crate::visiting::{Reached, reached_documents};
 use faults::Fault;
 use schema_scan::Compiled;
-use std::alloc::Global;
+use std::alloc::{AllocError, Global};
 use std::rc::Rc;
 
 /// Links the resource that has this URI with the documents that it reaches: the one that has it, each document that one of
@@ -88,7 +88,7 @@ fn holder_of(
     documents: &[Rc<Compiled>],
     compound: &CompoundDocuments,
     resource: &str,
-) -> Result<(Rc<Compiled>, usize), Fault>
+) -> Result<(Rc<Compiled>, usize), AllocError>
     requires searchable { AreSearchable (shared_documents documents.now)
         (compound_documents compound.now) }
     requires asked { is_some
@@ -98,7 +98,6 @@ fn holder_of(
         ≡ Some (compiled_view h.0.value)) }
     ensures number { IfOk result
         (λ h. slice_get (resource_uris (compiled_schemas h.0.value)) h.1 ≡ Some resource.now) }
-    ensures err { IfErr result (λ f. f ≡ Fault.NoRoom) }
 {
     match holder(documents, compound, resource) {
         Some(document) => {

@@ -1,6 +1,6 @@
 //! A list as a source.
 
-ghost use Rattle.std.specs.Prelude.{◌≡◌, IfErr, IfOk, find, option_map};
+ghost use Rattle.std.specs.Prelude.{◌≡◌, IfOk, find, option_map};
 ghost use Rattle.definitions.specs.Reach.{holds_resource};
 ghost use Rattle.schema_scan.specs.CompiledDocuments.{compiled_view};
 ghost use Rattle.linker.specs.ListedDocuments.{listed_documents};
@@ -8,15 +8,14 @@ ghost use Rattle.linker.specs.SoundLists.{listed_sound};
 
 use crate::list_source::ListSource;
 use crate::source::Source;
-use faults::Fault;
 use schema_scan::Compiled;
-use std::alloc::Global;
+use std::alloc::{AllocError, Global};
 use std::rc::Rc;
 
 impl Source for ListSource {
     ghost documents = { listed_documents };
 
-    fn holding(&mut self, alloc: Global, resource: &str) -> Result<Option<Rc<Compiled>>, Fault> {
+    fn holding(&mut self, alloc: Global, resource: &str) -> Result<Option<Rc<Compiled>>, AllocError> {
         holding(self, resource)
     }
 
@@ -26,7 +25,7 @@ impl Source for ListSource {
 impl Source for &ListSource {
     ghost documents = { λ s. listed_documents s.now };
 
-    fn holding(&mut self, alloc: Global, resource: &str) -> Result<Option<Rc<Compiled>>, Fault> {
+    fn holding(&mut self, alloc: Global, resource: &str) -> Result<Option<Rc<Compiled>>, AllocError> {
         holding(self, resource)
     }
 
@@ -34,11 +33,10 @@ impl Source for &ListSource {
 }
 
 // The document of the list that has a resource of this URI.
-fn holding(list: &ListSource, resource: &str) -> Result<Option<Rc<Compiled>>, Fault>
-    ensures held { IfOk result
+fn holding(list: &ListSource, resource: &str) -> Result<Option<Rc<Compiled>>, AllocError>
+    ensures { IfOk result
         (λ d. option_map (λ it. compiled_view it.value) d
         ≡ find (holds_resource resource.now) (listed_documents list.now)) }
-    ensures err { IfErr result (λ f. f ≡ Fault.NoRoom) }
 {
     match list.holder(resource) {
         Some(document) => Ok(Some(document.clone()?)),

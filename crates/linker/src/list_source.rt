@@ -1,6 +1,6 @@
 //! A source that is a list.
 
-ghost use Rattle.std.specs.Prelude.{◌≡◌, [], None, Some, IfErr, IfOk, IfSome, OnErr, false, true, find, if◌then◌else◌, not, option_map};
+ghost use Rattle.std.specs.Prelude.{◌≡◌, [], None, Some, IfOk, IfSome, OnErr, false, true, find, if◌then◌else◌, not, option_map};
 ghost use Rattle.std.proofs.Props.{props};
 ghost use Rattle.std.specs.List.{list_all, list_any};
 ghost use Rattle.std.specs.List.Sorted.{IsStrictlySortedBy-prop};
@@ -19,9 +19,8 @@ ghost use Rattle.linker.specs.Visits.{EmbedAlike, with_compound};
 use crate::compound_documents::CompoundDocuments;
 use crate::holders::{asked_holder, holder};
 use crate::insertion::insert_in_order;
-use faults::Fault;
 use schema_scan::Compiled;
-use std::alloc::Global;
+use std::alloc::{AllocError, Global};
 use std::rc::Rc;
 
 /// Documents in a list. A look-up by the URI of a resource doesn't grow with their number but by its logarithm.
@@ -56,7 +55,7 @@ impl ListSource {
 
     /// Adds a document, and answers whether it was added: it isn't where one of its resources has the URI of a resource of
     /// a document that is there. The only error is want of memory. Where it isn't added nothing changes.
-    pub fn add(&mut self, document: Rc<Compiled>) -> Result<bool, Fault>
+    pub fn add(&mut self, document: Rc<Compiled>) -> Result<bool, AllocError>
         ensures ok { IfOk result
             (λ added. added ≡ not (shares_resource (listed_documents self.old)
             (compiled_view document.value))) }
@@ -65,7 +64,6 @@ impl ListSource {
             ≡ (if added then documents_with (compiled_view document.value)
             (listed_documents self.old) else listed_documents self.old)) }
         ensures kept { OnErr result (listed_documents self.new ≡ listed_documents self.old) }
-        ensures err { IfErr result (λ f. f ≡ Fault.NoRoom) }
     {
         if self.shares_resource(checked(&document)) {
             return Ok(false);

@@ -1,16 +1,15 @@
 //! What the linked documents have under a URI and a reference (JSON Schema 2020-12 Core, section 8.2).
 
-ghost use Rattle.std.specs.Prelude.{◌≡◌, [], List, false, true, Some, Ok, Err, IfOk, IfErr, IfSome, IsTrue, Contains, codes, is_some, map, option_map, find, slice_get, unwrap_or, string_bytes};
+ghost use Rattle.std.specs.Prelude.{◌≡◌, List, false, true, Some, Ok, Err, IfOk, IfSome, IsTrue, Contains, codes, is_some, map, option_map, find, slice_get, unwrap_or, string_bytes};
 ghost use Rattle.definitions.specs.Fragments.{plain_name, tokens};
 ghost use Rattle.definitions.specs.Reach.{holds_resource};
 ghost use Rattle.definitions.specs.Resolution.{target_uri};
 ghost use Rattle.definitions.specs.Schemas.{Document, Schema, identity};
-ghost use Rattle.definitions.specs.Targets.{is_dynamic_anchor, resource_root, target, target_by, schema_with_dynamic_anchor, dynamic_by, dynamic_target};
-ghost use Rattle.definitions.specs.Uris.{without_fragment};
+ghost use Rattle.definitions.specs.Targets.{is_dynamic_anchor, resource_root, target_by, schema_with_dynamic_anchor, dynamic_by};
 ghost use Rattle.definitions.specs.Values.{Text, same_text, text_at};
 ghost use Rattle.json_doc.specs.Docs.{value};
-ghost use Rattle.linker.specs.AbsoluteReferences.{dynamic_target_of, target_of};
-ghost use Rattle.linker.specs.DynamicTargets.{HasItsAnchor, first_target, is_anchored, target_by_anchor, target_in_scope};
+ghost use Rattle.linker.specs.DynamicTargets.{IsNamedBy, is_anchored, target_by_anchor};
+ghost use Rattle.linker.specs.OpenedSchemas.{Opens};
 ghost use Rattle.linker.specs.SharedDocuments.{shared_documents};
 ghost use Rattle.linker.specs.LinkedDocuments.{linked_uri, linked_documents, linked_schemas};
 ghost use Rattle.schema_scan.specs.Locateds.{located_view};
@@ -22,11 +21,10 @@ use crate::holders::holder;
 use crate::linked::Linked;
 use crate::named::Named;
 use crate::references::ReferenceNumber;
-use faults::Fault;
 use json_doc::Doc;
 use json_pointer::Pointer;
 use schema_scan::{Compiled, Located};
-use std::alloc::Global;
+use std::alloc::{AllocError, Global};
 use uri_ref::{AbsoluteReference, FragmentKind, absolute_reference, opened_uri};
 
 impl Linked {
@@ -50,17 +48,9 @@ impl Linked {
         number: Option<ReferenceNumber>,
         resource: &str,
         reference: &str,
-    ) -> Result<Option<Named<'_>>, Fault>
-        ensures first { IfOk result
-            (λ n. option_map first_target n
-            ≡ target (linked_schemas self.now) (target_uri resource.now reference.now)) }
-        ensures dynamic { (scope : List Text) → IfOk result
-            (λ n. option_map (target_in_scope (linked_schemas self.now) scope) n
-            ≡ dynamic_target (linked_schemas self.now) scope
-            (target_uri resource.now reference.now)) }
-        ensures anchored { IfOk result
-            (λ n. IfSome n (HasItsAnchor (linked_schemas self.now))) }
-        ensures err { IfErr result (λ f. f ≡ Fault.NoRoom) }
+    ) -> Result<Option<Named<'_>>, AllocError>
+        ensures { IfOk result
+            (IsNamedBy (linked_schemas self.now) (target_uri resource.now reference.now)) }
     {
         match self.known_target(number, resource, reference) {
             Some((document, named)) => self.named_in(alloc, document, named),
@@ -84,18 +74,17 @@ impl Linked {
         alloc: Global,
         uri: &str,
         name: &str,
-    ) -> Result<Option<Located<'_>>, Fault>
-        ensures ok { IfOk result
+    ) -> Result<Option<Located<'_>>, AllocError>
+        ensures { IfOk result
             (λ t. option_map located_view t
             ≡ schema_with_dynamic_anchor (linked_schemas self.now) uri.now name.now) }
-        ensures err { IfErr result (λ f. f ≡ Fault.NoRoom) }
     {
         // Most resources are told by this look not to have it.
         if !self.is_anchored(uri, name) {
             return Ok(None);
         }
         match self.holder(uri) {
-            Some(document) => Ok(document.dynamically_anchored(alloc, uri, name)?),
+            Some(document) => document.dynamically_anchored(alloc, uri, name),
             None => Ok(None),
         }
     }
@@ -107,14 +96,13 @@ impl Linked {
         alloc: Global,
         resource: &str,
         pointer: Pointer,
-    ) -> Result<Option<Located<'_>>, Fault>
+    ) -> Result<Option<Located<'_>>, AllocError>
         ensures ok { IfOk result
             (λ t. option_map located_view t
             ≡ target_by (linked_schemas self.now) resource.now (tokens pointer)) }
         ensures named { (s : Schema) → Contains (linked_schemas self.now) s
             → identity s ≡ (resource.now, pointer)
             → IfOk result (λ t. option_map located_view t ≡ Some s) }
-        ensures err { IfErr result (λ f. f ≡ Fault.NoRoom) }
     {
         self.target_by(alloc, resource, &FragmentKind::Pointer(pointer))
     }
@@ -122,12 +110,9 @@ impl Linked {
     /// The URI of the resource that a schema opens by this `$id`, where the resource around it has this URI (section 8.2.1): both
     /// are compared with what was read. The only error is want of memory. Of texts that open no resource of these documents it
     /// answers some text.
-    pub fn resource_opened(&self, alloc: Global, around: &str, id: &str) -> Result<&str, Fault>
-        ensures ok { (s : Schema) → Contains (linked_schemas self.now) s → s.pointer ≡ []
-            → s.resource ≡ without_fragment (target_uri around.now id.now)
-            → text_at (codes "$id") s.value ≡ Some id.now
+    pub fn resource_opened(&self, alloc: Global, around: &str, id: &str) -> Result<&str, AllocError>
+        ensures { (s : Schema) → Opens self.now s around.now id.now
             → IfOk result (λ uri. uri.now ≡ s.resource) }
-        ensures err { IfErr result (λ f. f ≡ Fault.NoRoom) }
     {
         if let Some(read) = self.absolute_reference(around, id) {
             return Ok(read.uri.as_str());
@@ -159,15 +144,9 @@ impl Linked {
     }
 
     // What an absolute reference names first.
-    fn named_by(&self, alloc: Global, named: &AbsoluteReference) -> Result<Option<Named<'_>>, Fault>
-        ensures first { IfOk result
-            (λ n. option_map first_target n ≡ target_of (linked_schemas self.now) named.now) }
-        ensures dynamic { (scope : List Text) → IfOk result
-            (λ n. option_map (target_in_scope (linked_schemas self.now) scope) n
-            ≡ dynamic_target_of (linked_schemas self.now) scope named.now) }
-        ensures anchored { IfOk result
-            (λ n. IfSome n (HasItsAnchor (linked_schemas self.now))) }
-        ensures err { IfErr result (λ f. f ≡ Fault.NoRoom) }
+    fn named_by(&self, alloc: Global, named: &AbsoluteReference) -> Result<Option<Named<'_>>, AllocError>
+        ensures { (text : Text) → IsReadAs text (Some named.now)
+            → IfOk result (IsNamedBy (linked_schemas self.now) text) }
     {
         match self.holder(named.uri.as_str()) {
             Some(document) => self.named_in(alloc, document, named),
@@ -181,25 +160,18 @@ impl Linked {
         alloc: Global,
         document: &'a Compiled,
         named: &AbsoluteReference,
-    ) -> Result<Option<Named<'a>>, Fault>
+    ) -> Result<Option<Named<'a>>, AllocError>
         requires { Some (compiled_view document.now)
             ≡ find (holds_resource (string_bytes named.now.uri)) (linked_documents self.now) }
-        ensures first { IfOk result
-            (λ n. option_map first_target n ≡ target_of (linked_schemas self.entry.now) named.now) }
-        ensures dynamic { (scope : List Text) → IfOk result
-            (λ n. option_map (target_in_scope (linked_schemas self.entry.now) scope) n
-            ≡ dynamic_target_of (linked_schemas self.entry.now) scope named.now) }
-        ensures anchored { IfOk result
-            (λ n. IfSome n (HasItsAnchor (linked_schemas self.entry.now))) }
-        ensures err { IfErr result (λ f. f ≡ Fault.NoRoom) }
+        ensures { (text : Text) → IsReadAs text (Some named.now)
+            → IfOk result (IsNamedBy (linked_schemas self.entry.now) text) }
     {
-        match self.target_in(alloc, document, named.uri.as_str(), &named.fragment) {
-            Ok(Some(target)) => {
+        match self.target_in(alloc, document, named.uri.as_str(), &named.fragment)? {
+            Some(target) => {
                 let anchor = dynamic_anchor(&target, &named.fragment);
                 Ok(Some(Named { target, anchor }))
             }
-            Ok(None) => Ok(None),
-            Err(fault) => Err(fault),
+            None => Ok(None),
         }
     }
 
@@ -209,17 +181,9 @@ impl Linked {
         alloc: Global,
         resource: &str,
         reference: &str,
-    ) -> Result<Option<Named<'_>>, Fault>
-        ensures first { IfOk result
-            (λ n. option_map first_target n
-            ≡ target (linked_schemas self.now) (target_uri resource.now reference.now)) }
-        ensures dynamic { (scope : List Text) → IfOk result
-            (λ n. option_map (target_in_scope (linked_schemas self.now) scope) n
-            ≡ dynamic_target (linked_schemas self.now) scope
-            (target_uri resource.now reference.now)) }
-        ensures anchored { IfOk result
-            (λ n. IfSome n (HasItsAnchor (linked_schemas self.now))) }
-        ensures err { IfErr result (λ f. f ≡ Fault.NoRoom) }
+    ) -> Result<Option<Named<'_>>, AllocError>
+        ensures { IfOk result
+            (IsNamedBy (linked_schemas self.now) (target_uri resource.now reference.now)) }
     {
         if let Some(named) = self.absolute_reference(resource, reference) {
             return self.named_by(alloc, named);
@@ -279,11 +243,10 @@ impl Linked {
         alloc: Global,
         uri: &str,
         fragment: &FragmentKind,
-    ) -> Result<Option<Located<'_>>, Fault>
-        ensures ok { IfOk result
+    ) -> Result<Option<Located<'_>>, AllocError>
+        ensures { IfOk result
             (λ t. option_map located_view t
             ≡ target_by (linked_schemas self.now) uri.now (fragment_view fragment.now)) }
-        ensures err { IfErr result (λ f. f ≡ Fault.NoRoom) }
     {
         match self.holder(uri) {
             Some(document) => self.target_in(alloc, document, uri, fragment),
@@ -298,15 +261,14 @@ impl Linked {
         document: &'a Compiled,
         uri: &str,
         fragment: &FragmentKind,
-    ) -> Result<Option<Located<'a>>, Fault>
+    ) -> Result<Option<Located<'a>>, AllocError>
         requires { Some (compiled_view document.now)
             ≡ find (holds_resource uri.now) (linked_documents self.now) }
-        ensures ok { IfOk result
+        ensures { IfOk result
             (λ t. option_map located_view t
             ≡ target_by (linked_schemas self.entry.now) uri.now (fragment_view fragment.now)) }
-        ensures err { IfErr result (λ f. f ≡ Fault.NoRoom) }
     {
-        Ok(document.target(alloc, uri, fragment)?)
+        document.target(alloc, uri, fragment)
     }
 
     // The URI, as a text of the documents, where one of their resources has it, and else an empty text.

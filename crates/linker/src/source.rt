@@ -1,14 +1,13 @@
 //! Where documents come from.
 
-ghost use Rattle.std.specs.Prelude.{◌≡◌, List, IfOk, IfErr, find, option_map};
+ghost use Rattle.std.specs.Prelude.{◌≡◌, List, IfOk, find, option_map};
 ghost use Rattle.definitions.specs.Documents.{AreSound};
 ghost use Rattle.definitions.specs.Reach.{holds_resource};
 ghost use Rattle.definitions.specs.Schemas.{Document};
 ghost use Rattle.schema_scan.specs.CompiledDocuments.{compiled_view};
 
-use faults::Fault;
 use schema_scan::Compiled;
-use std::alloc::Global;
+use std::alloc::{AllocError, Global};
 use std::rc::Rc;
 
 /// Documents by the URIs of their resources.
@@ -21,11 +20,10 @@ pub trait Source {
 
     /// The document that has a resource of this URI, where one has. The only error is want of memory. Asking leaves the
     /// source with the documents that it had.
-    fn holding(&mut self, alloc: Global, resource: &str) -> Result<Option<Rc<Compiled>>, Fault>
+    fn holding(&mut self, alloc: Global, resource: &str) -> Result<Option<Rc<Compiled>>, AllocError>
         ensures held { IfOk result
             (λ d. option_map (λ it. compiled_view it.value) d
             ≡ find (holds_resource resource.now) (documents self.old)) }
-        ensures err { IfErr result (λ f. f ≡ Fault.NoRoom) }
         ensures same { documents self.new ≡ documents self.old };
 
     /// They have no fault, stand in byte order, and hold each resource once.

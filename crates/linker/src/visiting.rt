@@ -1,6 +1,6 @@
 //! The documents that a resource reaches (JSON Schema 2020-12 Core, sections 8.2.3 and 9.2).
 
-ghost use Rattle.std.specs.Prelude.{◌≡◌, IfErr, IfOk, OnOk};
+ghost use Rattle.std.specs.Prelude.{◌≡◌, IfOk, OnOk};
 ghost use Rattle.definitions.specs.Reach.{holds_resource, reach, refers_to};
 ghost use Rattle.schema_scan.specs.CompiledDocuments.{compiled_view};
 ghost use Rattle.linker.specs.CompoundDocuments.{compound_documents};
@@ -12,7 +12,6 @@ use crate::compound_documents::CompoundDocuments;
 use crate::holders::is_reached;
 use crate::insertion::insert_in_order;
 use crate::source::Source;
-use faults::Fault;
 use schema_scan::Compiled;
 use std::alloc::{AllocError, Global};
 use std::rc::Rc;
@@ -32,12 +31,11 @@ pub(crate) fn reached_documents<S: Source>(
     alloc: Global,
     source: &mut S,
     resource: &str,
-) -> Result<Reached, Fault>
+) -> Result<Reached, AllocError>
     ensures ok { IfOk result (λ r. shared_documents r.documents.items
         ≡ reach (S.documents source.old) resource.now) }
     ensures known { IfOk result (λ r. EmbedAlike (shared_documents r.documents.items)
         (compound_documents r.compound)) }
-    ensures err { IfErr result (λ f. f ≡ Fault.NoRoom) }
     ensures same { S.documents source.new ≡ S.documents source.old }
 {
     let mut reached = Vec::new(alloc);
@@ -75,7 +73,7 @@ fn follow<S: Source>(
     reached: &mut Vec<Rc<Compiled>>,
     compound: &mut CompoundDocuments,
     waiting: &mut Vec<Rc<Compiled>>,
-) -> Result<(), Fault>
+) -> Result<(), AllocError>
     requires part { IsPart (shared_documents reached.old.items) (S.documents source.old) }
     requires known { AreCompound (shared_documents reached.old.items)
         (compound_documents compound.old) }
@@ -85,7 +83,6 @@ fn follow<S: Source>(
         (shared_documents reached.new.items) (shared_documents waiting.new.items)) }
     ensures known { OnOk result
         (AreCompound (shared_documents reached.new.items) (compound_documents compound.new)) }
-    ensures err { IfErr result (λ f. f ≡ Fault.NoRoom) }
     ensures same { S.documents source.new ≡ S.documents source.old }
 {
     for reference in document.references() {
@@ -109,7 +106,7 @@ fn visit<S: Source>(
     reached: &mut Vec<Rc<Compiled>>,
     compound: &mut CompoundDocuments,
     waiting: &mut Vec<Rc<Compiled>>,
-) -> Result<(), Fault>
+) -> Result<(), AllocError>
     requires part { IsPart (shared_documents reached.old.items) (S.documents source.old) }
     requires known { AreCompound (shared_documents reached.old.items)
         (compound_documents compound.old) }
@@ -119,7 +116,6 @@ fn visit<S: Source>(
         (shared_documents waiting.new.items)) }
     ensures known { OnOk result
         (AreCompound (shared_documents reached.new.items) (compound_documents compound.new)) }
-    ensures err { IfErr result (λ f. f ≡ Fault.NoRoom) }
     ensures same { S.documents source.new ≡ S.documents source.old }
 {
     if is_reached(reached, compound, uri) {

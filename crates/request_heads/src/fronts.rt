@@ -8,6 +8,7 @@ ghost use Rattle.request_heads.specs.Fronts.{IsFrontOf, Overfills};
 
 use crate::headings::{Heading, judge};
 use crate::searches::{MOST_BYTES, Search, ends_empty_line, skip_line};
+use crate::tuning::FEW_FIELDS;
 use httparse::spans::{EMPTY_HEADER_SPAN, HeaderSpan, parse_request};
 use httparse::{Error, Status};
 
@@ -22,9 +23,6 @@ pub enum Front {
 
 /// The most line feeds of a head: the first line, 64 fields and the empty line.
 const MOST_LINE_FEEDS: usize = 66;
-
-/// Room for so many fields is made first. Few heads have more.
-const FEW_FIELDS: usize = 32;
 
 // The window has more fields than there was room for.
 #[derive(Drop)]

@@ -8,6 +8,7 @@ mod methods;
 mod names;
 mod searches;
 mod targets;
+mod tuning;
 
 pub use fronts::{Front, look};
 pub use headings::Heading;

@@ -92,7 +92,7 @@ impl Compiled {
         let text_numbers = TextNumbers::of(alloc, &table.texts)?;
         Ok(Compiled {
             base,
-            document: copied(alloc, document)?,
+            document: copy(alloc, document)?,
             table,
             pattern_table,
             anchor_numbers,
@@ -374,16 +374,5 @@ impl Compiled {
         ensures { option_map (λ p. p.now) result ≡ slice_get (compiled_patterns self.now) number }
     {
         self.pattern_table.patterns.get(number)
-    }
-}
-
-// A copy of the document.
-fn copied(alloc: Global, document: &Doc) -> Result<Doc, AllocError>
-    ensures ok { IfOk result (λ d. value d ≡ value document.now) }
-    ensures well_formed { IfOk result (λ d. is_well_formed (value d) ≡ true) }
-{
-    match copy(alloc, document) {
-        Ok(document) => Ok(document),
-        Err(_) => Err(AllocError),
     }
 }

@@ -11,7 +11,7 @@ use crate::scanned::Scanned;
 use faults::Fault;
 use json_doc::Doc;
 use schema_table::read_schemas;
-use std::alloc::{AllocError, Global};
+use std::alloc::Global;
 use uri_ref::{Parts, recompose};
 
 /// Scans the document that is to stand under this base (JSON Schema 2020-12 Core, sections 8 to 10).
@@ -38,18 +38,9 @@ pub fn scan<'a>(alloc: Global, base: &Parts, document: &'a Doc) -> Result<Scanne
         (λ f. f ≢ Fault.NoRoom → scan_fault (recompose base.now) (value document.now)
         ≡ Some (fault_view f)) }
 {
-    let text = text_of(alloc, base)?;
+    let text = recompose(alloc, base)?;
     match read_schemas(alloc, text.as_str(), document) {
         Ok(gathered) => Ok(Scanned::new(text, document, gathered)),
         Err(fault) => Err(fault),
-    }
-}
-
-fn text_of(alloc: Global, base: &Parts) -> Result<String, AllocError>
-    ensures { IfOk result (λ s. string_bytes s ≡ recompose base.now) }
-{
-    match recompose(alloc, base) {
-        Ok(text) => Ok(text),
-        Err(_) => Err(AllocError),
     }
 }

@@ -268,7 +268,7 @@ const REFERENCES: &[(&str, &str, &str, &str)] = &[
 
 fn resolved(alloc: Global, base: &str, reference: &str) -> Result<String, Fault> {
     let resolved = resolve(alloc, &split(base), &split(reference))?;
-    recompose(alloc, &resolved.parts())
+    Ok(recompose(alloc, &resolved.parts())?)
 }
 
 fn resolved_text(alloc: Global, base: &str, reference: &str) -> Result<String, Fault> {

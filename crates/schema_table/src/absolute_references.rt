@@ -49,12 +49,7 @@ impl AbsoluteReferences {
         if self.get(resource, reference).is_some() {
             return resolved_uri(alloc, resource, reference);
         }
-        let ResolvedReference { text, named } = match resolved_reference(
-            alloc, resource, reference,
-        ) {
-            Ok(resolved) => resolved,
-            Err(_) => return Err(AllocError),
-        };
+        let ResolvedReference { text, named } = resolved_reference(alloc, resource, reference)?;
         if let Some(named) = named {
             self.insert(alloc, resource, reference, named)?;
         }

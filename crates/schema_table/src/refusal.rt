@@ -98,7 +98,7 @@ impl<'a> Refusal<'a> {
 }
 
 // The text of the pointer that takes these steps, the last one first.
-fn text_up(alloc: Global, mut steps: Vec<Step<'_>>) -> Result<String, Fault>
+fn text_up(alloc: Global, mut steps: Vec<Step<'_>>) -> Result<String, AllocError>
     ensures { IfOk result (λ s. string_bytes s ≡ pointer_text (way_up steps.entry.items)) }
 {
     let mut pointer = Pointer::new(alloc);

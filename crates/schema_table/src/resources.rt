@@ -57,22 +57,15 @@ fn opened_by<'a>(alloc: Global, base: &str, id: &'a str) -> Result<Option<Opened
     if !is_empty_fragment(reference.fragment()) {
         return Ok(None);
     }
-    let resolved = match resolve(alloc, &split(base), &reference) {
-        Ok(resolved) => resolved,
-        Err(_) => return Err(AllocError),
-    };
+    let resolved = resolve(alloc, &split(base), &reference)?;
     let identifier = resolved.parts().without_fragment();
     if !is_identifier(&identifier) {
         return Ok(None);
     }
-    match recompose(alloc, &identifier) {
-        Ok(uri) => {
-            let fragment = FragmentKind::Empty;
-            let named = AbsoluteReference { uri, fragment };
-            Ok(Some(Opened { id, named }))
-        }
-        Err(_) => Err(AllocError),
-    }
+    let uri = recompose(alloc, &identifier)?;
+    let fragment = FragmentKind::Empty;
+    let named = AbsoluteReference { uri, fragment };
+    Ok(Some(Opened { id, named }))
 }
 
 fn is_empty_fragment(fragment: Option<&str>) -> bool

@@ -26,12 +26,4 @@ impl Limits {
             parting: Duration::from_secs(2),
         }
     }
-
-    /// Those of a server that stays: 30 seconds for a read or a write, without end in all, and 2 seconds at the end.
-    pub fn lasting() -> Limits {
-        Limits {
-            whole: Duration::MAX,
-            ..Limits::standard()
-        }
-    }
 }

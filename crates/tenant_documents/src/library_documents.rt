@@ -1,6 +1,6 @@
 //! The library's documents, by their URIs.
 
-ghost use Rattle.std.specs.Prelude.{◌≡◌, IfErr, IfOk, find, option_map};
+ghost use Rattle.std.specs.Prelude.{◌≡◌, IfOk, find, option_map};
 ghost use Rattle.definitions.specs.Reach.{holds_resource};
 ghost use Rattle.definitions.specs.Registries.{is_in_library};
 ghost use Rattle.linker.specs.ListedDocuments.{listed_documents};
@@ -11,15 +11,14 @@ use crate::registry::Registry;
 use linker::{ListSource, Source};
 use requests::Fault;
 use schema_scan::{Compiled, canonical};
-use std::alloc::Global;
+use std::alloc::{AllocError, Global};
 use std::rc::Rc;
 
 impl Registry {
     // Whether the library has a document with this canonical URI. The only error is want of memory.
-    pub(crate) fn is_in_library(&self, alloc: Global, canonical_uri: &str) -> Result<bool, Fault>
-        ensures ok { IfOk result (λ there. there
+    pub(crate) fn is_in_library(&self, alloc: Global, canonical_uri: &str) -> Result<bool, AllocError>
+        ensures { IfOk result (λ there. there
             ≡ is_in_library (registry_view self.now) canonical_uri.now) }
-        ensures err { IfErr result (λ f. f ≡ Fault.NoRoom) }
     {
         match library_holder(&self.library, alloc, canonical_uri)? {
             Some(document) => Ok(canonical_uri == canonical(&document)),
@@ -33,10 +32,9 @@ pub(crate) fn library_holder(
     library: &ListSource,
     alloc: Global,
     uri: &str,
-) -> Result<Option<Rc<Compiled>>, Fault>
-    ensures ok { IfOk result (λ d. option_map (λ it. compiled_view it.value) d
+) -> Result<Option<Rc<Compiled>>, AllocError>
+    ensures { IfOk result (λ d. option_map (λ it. compiled_view it.value) d
         ≡ find (holds_resource uri.now) (listed_documents library.now)) }
-    ensures err { IfErr result (λ f. f ≡ Fault.NoRoom) }
 {
     let mut source = library;
     Source::holding(&mut source, alloc, uri)

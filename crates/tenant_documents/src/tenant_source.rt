@@ -2,11 +2,10 @@
 
 ghost use Rattle.std.specs.Prelude.{◌≡◌};
 
-use faults::Fault;
 use linker::Source;
 use schema_scan::Compiled;
 use shared_cache::Cache;
-use std::alloc::Global;
+use std::alloc::{AllocError, Global};
 use std::rc::Rc;
 use stored_documents::Documents;
 
@@ -30,12 +29,12 @@ impl<'a> Source for TenantSource<'a> {
 
     ghost documents = { source_documents };
 
-    fn holding(&mut self, alloc: Global, resource: &str) -> Result<Option<Rc<Compiled>>, Fault> {
+    fn holding(&mut self, alloc: Global, resource: &str) -> Result<Option<Rc<Compiled>>, AllocError> {
         match self.documents.holder(resource) {
             Some(stored) => match self.cache.compiled_of_key(alloc, stored.key()) {
                 Ok(compiled) => Ok(Some(compiled)),
                 // A stored document has no fault, and its patterns can be read.
-                Err(_) => Err(Fault::NoRoom),
+                Err(_) => Err(AllocError),
             },
             None => Ok(None),
         }

@@ -47,7 +47,7 @@ fn bundle_text<S: Source>(alloc: Global, source: &mut S, uri: &str) -> Result<St
     }
     let linked = link(alloc, source, base.as_str())?;
     let whole = bundle(alloc, &linked)?;
-    write(alloc, &whole)
+    Ok(write(alloc, &whole)?)
 }
 
 // Whether the URI is the canonical URI of a document that it reaches. It may be that of an embedded resource, too.

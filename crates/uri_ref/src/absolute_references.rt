@@ -1,6 +1,6 @@
 //! References, as they are read inside a resource (JSON Schema 2020-12 Core, section 8.2.3).
 
-ghost use Rattle.std.specs.Prelude.{◌≡◌, IfOk, IfErr, option_map, string_bytes};
+ghost use Rattle.std.specs.Prelude.{◌≡◌, IfOk, option_map, string_bytes};
 ghost use Rattle.definitions.specs.Fragments.{fragment_kind};
 ghost use Rattle.definitions.specs.Resolution.{resolve, target_uri};
 ghost use Rattle.definitions.specs.Uris.{split};
@@ -13,7 +13,7 @@ use crate::resolved_parts::ResolvedParts;
 use crate::resolving::resolve;
 use crate::splitting::split;
 use faults::Fault;
-use std::alloc::Global;
+use std::alloc::{AllocError, Global};
 
 /// An absolute reference: the URI of a resource, and what its fragment names there.
 #[derive(Debug, Drop)]
@@ -39,11 +39,10 @@ pub fn resolved_reference(
     alloc: Global,
     resource: &str,
     reference: &str,
-) -> Result<ResolvedReference, Fault>
+) -> Result<ResolvedReference, AllocError>
     ensures text { IfOk result
         (λ r. string_bytes r.text ≡ target_uri resource.now reference.now) }
     ensures named { IfOk result (λ r. IsReadAs (target_uri resource.now reference.now) r.named) }
-    ensures err { IfErr result (λ f. f ≡ Fault.NoRoom) }
 {
     let resolved = resolve(alloc, &split(resource), &split(reference))?;
     let text = recompose(alloc, &resolved.parts())?;
@@ -57,20 +56,18 @@ pub fn absolute_reference(
     alloc: Global,
     resource: &str,
     reference: &str,
-) -> Result<Option<AbsoluteReference>, Fault>
-    ensures ok { IfOk result (λ r. IsReadAs (target_uri resource.now reference.now) r) }
-    ensures err { IfErr result (λ f. f ≡ Fault.NoRoom) }
+) -> Result<Option<AbsoluteReference>, AllocError>
+    ensures { IfOk result (λ r. IsReadAs (target_uri resource.now reference.now) r) }
 {
     let resolved = resolve(alloc, &split(resource), &split(reference))?;
     named_by(alloc, &resolved)
 }
 
 // What these parts name, where a reference resolves to them, or none where their fragment can't be read.
-fn named_by(alloc: Global, resolved: &ResolvedParts<'_>) -> Result<Option<AbsoluteReference>, Fault>
-    ensures ok { (resource reference : Text)
+fn named_by(alloc: Global, resolved: &ResolvedParts<'_>) -> Result<Option<AbsoluteReference>, AllocError>
+    ensures { (resource reference : Text)
         → resolved.now ≡ resolve (split resource) (split reference)
         → IfOk result (λ r. IsReadAs (target_uri resource reference) r) }
-    ensures err { IfErr result (λ f. f ≡ Fault.NoRoom) }
 {
     let parts = resolved.parts();
     match readable_fragment(alloc, parts.fragment())? {
@@ -83,14 +80,13 @@ fn named_by(alloc: Global, resolved: &ResolvedParts<'_>) -> Result<Option<Absolu
 }
 
 // What the fragment names, or none where it can't be read.
-fn readable_fragment(alloc: Global, fragment: Option<&str>) -> Result<Option<FragmentKind>, Fault>
-    ensures ok { IfOk result
+fn readable_fragment(alloc: Global, fragment: Option<&str>) -> Result<Option<FragmentKind>, AllocError>
+    ensures { IfOk result
         (λ kind. IsShownBy (fragment_kind (option_map (λ t. t.now) fragment.entry)) kind) }
-    ensures err { IfErr result (λ f. f ≡ Fault.NoRoom) }
 {
     match fragment_kind(alloc, fragment) {
         Ok(kind) => Ok(Some(kind)),
-        Err(Fault::NoRoom) => Err(Fault::NoRoom),
+        Err(Fault::NoRoom) => Err(AllocError),
         Err(_) => Ok(None),
     }
 }

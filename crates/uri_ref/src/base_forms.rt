@@ -28,5 +28,5 @@ pub fn base_form(alloc: Global, uri: &str) -> Result<String, Fault>
     if !is_identifier(&base) {
         return Err(Fault::BadUri);
     }
-    recompose(alloc, &base)
+    Ok(recompose(alloc, &base)?)
 }

@@ -14,14 +14,8 @@ use std::alloc::{AllocError, Global};
 pub fn resolved_uri(alloc: Global, base: &str, reference: &str) -> Result<String, AllocError>
     ensures { IfOk result (λ uri. string_bytes uri ≡ target_uri base.now reference.now) }
 {
-    let parts = match resolve(alloc, &split(base), &split(reference)) {
-        Ok(parts) => parts,
-        Err(_) => return Err(AllocError),
-    };
-    match recompose(alloc, &parts.parts()) {
-        Ok(uri) => Ok(uri),
-        Err(_) => Err(AllocError),
-    }
+    let parts = resolve(alloc, &split(base), &split(reference))?;
+    recompose(alloc, &parts.parts())
 }
 
 /// The URI of the resource that a schema with this `$id` opens inside this base: the `$id`, resolved against the base, up to
@@ -30,12 +24,6 @@ pub fn opened_uri(alloc: Global, base: &str, id: &str) -> Result<String, AllocEr
     ensures { IfOk result
         (λ uri. string_bytes uri ≡ without_fragment (target_uri base.now id.now)) }
 {
-    let opened = match resolve(alloc, &split(base), &split(id)) {
-        Ok(parts) => parts,
-        Err(_) => return Err(AllocError),
-    };
-    match recompose(alloc, &opened.parts().without_fragment()) {
-        Ok(uri) => Ok(uri),
-        Err(_) => Err(AllocError),
-    }
+    let opened = resolve(alloc, &split(base), &split(id))?;
+    recompose(alloc, &opened.parts().without_fragment())
 }

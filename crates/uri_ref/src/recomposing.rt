@@ -1,16 +1,14 @@
 //! The text of a reference's parts (RFC 3986, section 5.3).
 
-ghost use Rattle.std.specs.Prelude.{◌≡◌, ◌++◌, option_map, IfOk, IfErr, OnOk, codes, string_bytes};
+ghost use Rattle.std.specs.Prelude.{◌≡◌, ◌++◌, option_map, IfOk, OnOk, codes, string_bytes};
 ghost use Rattle.definitions.specs.Uris.{recompose, led_by, ended_by};
 
 use crate::parts::Parts;
-use faults::Fault;
 use std::alloc::{AllocError, Global};
 
 /// The text of the parts (RFC 3986, section 5.3). The only error is want of memory.
-pub fn recompose(alloc: Global, parts: &Parts) -> Result<String, Fault>
-    ensures text { IfOk result (λ s. string_bytes s ≡ recompose parts.now) }
-    ensures room { IfErr result (λ f. f ≡ Fault.NoRoom) }
+pub fn recompose(alloc: Global, parts: &Parts) -> Result<String, AllocError>
+    ensures { IfOk result (λ s. string_bytes s ≡ recompose parts.now) }
 {
     let mut text = String::new(alloc);
     push_ended(&mut text, parts.scheme, ":")?;

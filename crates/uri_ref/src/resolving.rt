@@ -1,6 +1,6 @@
 //! What a reference resolves to against a base (RFC 3986, section 5.2).
 
-ghost use Rattle.std.specs.Prelude.{◌≡◌, ◌++◌, IfOk, IfErr, codes, if◌then◌else◌, is_some, string_bytes};
+ghost use Rattle.std.specs.Prelude.{◌≡◌, ◌++◌, IfOk, codes, if◌then◌else◌, is_some, string_bytes};
 ghost use Rattle.definitions.specs.Values.{Text};
 ghost use Rattle.definitions.specs.Uris.{begins};
 ghost use Rattle.definitions.specs.Resolution.{resolve, merge, remove_dot_segments, up_to_last_slash};
@@ -9,7 +9,6 @@ use crate::dots::{begins, remove_dot_segments};
 use crate::parts::Parts;
 use crate::resolved_parts::ResolvedParts;
 use crate::splitting::last_slash;
-use faults::Fault;
 use std::alloc::{AllocError, Global};
 
 /// The parts of the reference, resolved against the base (RFC 3986, section 5.2.2). The only error is want of memory.
@@ -17,9 +16,8 @@ pub fn resolve<'a>(
     alloc: Global,
     base: &Parts<'a>,
     reference: &Parts<'a>,
-) -> Result<ResolvedParts<'a>, Fault>
-    ensures parts { IfOk result (λ p. p ≡ resolve base.now reference.now) }
-    ensures room { IfErr result (λ f. f ≡ Fault.NoRoom) }
+) -> Result<ResolvedParts<'a>, AllocError>
+    ensures { IfOk result (λ p. p ≡ resolve base.now reference.now) }
 {
     if reference.scheme.is_some() {
         let path = remove_dot_segments(alloc, reference.path)?;

@@ -10,12 +10,10 @@ ghost use Rattle.applicators.specs.Subjects.{subject_value};
 
 use crate::planned::{Part, Planned, Way};
 use crate::subject::Subject;
+use crate::tuning::FAR_LONGER;
 use json_doc::{Doc, Members};
 use std::alloc::AllocError;
 use std::cmp::min;
-
-/// How many times as long a list is that is searched for each name of the other, rather than walked along beside it.
-pub const FAR_LONGER: usize = 4;
 
 /// Each schema whose name the instance has, at that member (10.3.2.1).
 pub fn plan_properties<'a>(

@@ -6,11 +6,9 @@ ghost use Rattle.std.specs.Str.{IsCharBoundary, is_utf8};
 ghost use Rattle.basic_output.specs.WrittenOver.{IsWrittenOver};
 
 use super::placing::place;
+use crate::tuning::TEXT_ROOM;
 use std::alloc::{AllocError, Global};
 use std::str;
-
-/// How many bytes there is room for at least behind what is written, where room is made.
-const ROOM: usize = 1_024;
 
 /// A text at the front of bytes that stay when it is cut back: what comes later is written over them, so that room is made for
 /// several texts at once.
@@ -100,7 +98,7 @@ fn make_more_room(bytes: &mut Vec<u8>, end: usize) -> Result<(), AllocError>
     ensures front { (start : ℕ) → start ≤ length bytes.old.items
         → take start bytes.new.items ≡ take start bytes.old.items }
 {
-    bytes.resize(end.saturating_add(ROOM), b',')
+    bytes.resize(end.saturating_add(TEXT_ROOM), b',')
 }
 
 // Writes a text behind what leads it over the bytes from there on: the position behind it.

@@ -11,6 +11,7 @@ ghost use Rattle.json_doc.specs.Reads.{value_at, elements_at, members_at, whole_
 use crate::doc::Doc;
 use crate::gathered::Gathered;
 use crate::members::Members;
+use crate::tuning::{LEAST_ROOM, MOST_ROOM};
 use crate::whole::Whole;
 use fast_float::Numeral;
 use json::{Invalid, Reader, Scratch, Token};
@@ -21,11 +22,6 @@ const MAX_NESTING: usize = 127;
 
 // How many digits surely fit 64 bits, with a sign too.
 const MAX_DIGITS: usize = 18;
-
-// For how many members there is room at first in an object, at least and at most.
-const LEAST_ROOM: usize = 4;
-
-const MOST_ROOM: usize = 8;
 
 /// Why a text was not read.
 #[derive(Clone, Copy, Debug, Drop)]

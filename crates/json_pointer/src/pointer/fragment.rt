@@ -1,11 +1,10 @@
 //! Pointers as URI fragments (RFC 6901, section 6).
 
-ghost use Rattle.std.specs.Prelude.{◌≡◌, ◌∷◌, ◌++◌, IfOk, IfErr, OnOk, flat_map, string_bytes};
+ghost use Rattle.std.specs.Prelude.{◌≡◌, ◌∷◌, ◌++◌, IfOk, OnOk, flat_map, string_bytes};
 ghost use Rattle.definitions.specs.Bytes.{slash};
 ghost use Rattle.definitions.specs.Pointers.{escaped_byte, fragment_text, percent_encoded_text};
 
 use super::{Pointer, escape_of, first_escaped};
-use faults::Fault;
 use percent_encoding::{AsciiSet, NON_ALPHANUMERIC, ascii_set, utf8_percent_encode};
 use std::alloc::{AllocError, Global};
 
@@ -37,9 +36,8 @@ impl Pointer {
     /// The text as a URI fragment, without its `#`: each byte of the pointer's text that cannot stand in a fragment is
     /// written as `%` and two upper-case digits (RFC 6901, section 6; RFC 3986, sections 2.1 and 3.5). The only error is
     /// want of memory.
-    pub fn fragment_text(&self, alloc: Global) -> Result<String, Fault>
-        ensures text { IfOk result (λ s. string_bytes s ≡ fragment_text self.now) }
-        ensures room { IfErr result (λ f. f ≡ Fault.NoRoom) }
+    pub fn fragment_text(&self, alloc: Global) -> Result<String, AllocError>
+        ensures { IfOk result (λ s. string_bytes s ≡ fragment_text self.now) }
     {
         let mut text = String::new(alloc);
         for token in &self.tokens {

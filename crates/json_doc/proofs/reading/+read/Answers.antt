@@ -1,4 +1,4 @@
-use Rattle.std.proofs.Common.{◌≡◌, [], ◌∷◌, ◌++◌, length, Some, sym, ap, ◌∙◌, subst, append_assoc, append-nil, arith, string_bytes}
+use Rattle.std.proofs.Common.{◌≡◌, [], ◌∷◌, ◌++◌, length, Some, refl, sym, ap, ◌∙◌, subst, append_assoc, append-nil, arith, string_bytes}
 use Rattle.std.proofs.lemmas.Result.{err_from_is_err_and}
 use Rattle.std.proofs.lemmas.List.{nil_from_length}
 use Rattle.std.specs.List.Sorted.{IsStrictlySortedBy}
@@ -52,7 +52,7 @@ dict_of-returns-in_err-doc_of-clause-err t c =
 pub dict_of-returns-in_err-insert-clause-err : goal.dict_of-returns-in_err-insert-clause-err
 dict_of-returns-in_err-insert-clause-err t c =
     let p = err_from_is_err_and c.from_residual-in_err-insert.result c.from_residual-in_err-insert.ensures.1 in
-    rw (p.1, p.2) (λ other. absurd (other c.in_err-insert.ensures.room))
+    rw (p.1, p.2) (λ other. absurd (other refl))
 
 pub dict_of-loop-name-preserved : goal.dict_of-loop-name-preserved
 dict_of-loop-name-preserved t c =

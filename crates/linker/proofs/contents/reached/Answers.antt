@@ -15,9 +15,9 @@ told P (Err e) uris p is = tt
 
 pub returns-clause-ok : goal.returns-clause-ok
 unfolding linked_documents
-returns-clause-ok c = subst (λ ds. IfOk c.canonical_uris.result (λ uris. map string_bytes uris.items ≡ canonicals (shared_documents ds))) c.deref.ensures.value c.canonical_uris.ensures.ok
+returns-clause-ok c = subst (λ ds. IfOk c.canonical_uris.result (λ uris. map string_bytes uris.items ≡ canonicals (shared_documents ds))) c.deref.ensures.value c.canonical_uris.ensures
 
 pub returns-clause-ascending : goal.returns-clause-ascending
 returns-clause-ascending c =
     told (IsStrictlySortedBy (slice_cmp nat_cmp)) c.canonical_uris.result (canonicals (shared_documents c.args.linked.now.documents.items)) c.args.linked.now.ascend
-    (subst (λ ds. IfOk c.canonical_uris.result (λ uris. map string_bytes uris.items ≡ canonicals (shared_documents ds))) c.deref.ensures.value c.canonical_uris.ensures.ok)
+    (subst (λ ds. IfOk c.canonical_uris.result (λ uris. map string_bytes uris.items ≡ canonicals (shared_documents ds))) c.deref.ensures.value c.canonical_uris.ensures)

@@ -25,7 +25,7 @@ loop-document-preserved c = λ uri name.
     ∙ sym (ap (λ ds. is_some (schema_with_dynamic_anchor (table_of ds) uri name)) (shared_more documents i c.document-item.result c.loop-document-test.true c.document-item.is)
     ∙ anchored_more before (compiled_view c.document-item.result.value) uri name)
 
-pub returns-clause-ok : goal.returns-clause-ok
-returns-clause-ok c = λ uri name.
+pub returns : goal.returns
+returns c = λ uri name.
     c.loop-document.invariant uri name
     ∙ ap (λ ds. is_some (schema_with_dynamic_anchor (table_of (shared_documents ds)) uri name)) (take_all c.loop-document.document-index c.args.documents.now c.loop-document-test.false)

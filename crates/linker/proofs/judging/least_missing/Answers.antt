@@ -17,13 +17,13 @@ pub loop-document-preserved : goal.loop-document-preserved
 loop-document-preserved c =
     let ds = shared_documents c.args.documents.now in
     let before = flat_map (missing_in ds) (shared_documents (take c.loop-document.document-index c.args.documents.now)) in
-    c.in_ok-found.ensures.ok before c.loop-document.invariant
+    c.in_ok-found.ensures before c.loop-document.invariant
     ∙ ap (λ d. least (before ++ missing_in ds (compiled_view d))) c.deref.ensures
     ∙ ap least (sym (ap (flat_map (missing_in ds)) (shared_more c.args.documents.now c.loop-document.document-index c.document-item.result c.loop-document-test.true c.document-item.is)
     ∙ flat_map-push (missing_in ds) (shared_documents (take c.loop-document.document-index c.args.documents.now)) (compiled_view c.document-item.result.value)))
 
-pub returns-clause-ok : goal.returns-clause-ok
-returns-clause-ok c =
+pub returns : goal.returns
+returns c =
     let ds = shared_documents c.args.documents.now in
     c.loop-document.invariant
     ∙ ap (λ xs. least (flat_map (missing_in ds) (shared_documents xs))) (take_all c.loop-document.document-index c.args.documents.now c.loop-document-test.false)

@@ -17,15 +17,15 @@ loop-reference-preserved c = λ before e.
     let items : List (String Global) = c.references-reference-items.result.now in
     let s = string_bytes c.reference-item.result in
     let so_far = option_map (λ t. t.now) c.loop-reference.least in
-    c.in_ok-least.ensures.ok
+    c.in_ok-least.ensures
     ∙ ap (λ r. cond (is_some (target table r)) so_far (Some (lesser r so_far))) c.deref.ensures
     ∙ ap (λ l. cond (is_some (target table s)) l (Some (lesser s l))) (c.loop-reference.invariant before e)
     ∙ sym (judged_more (target table) before (map string_bytes (take c.loop-reference.reference-index items)) s)
     ∙ sym (ap (λ rs. least (before ++ filter (λ r. is_none (target table r)) rs)) (map-take_more string_bytes items c.loop-reference.reference-index c.reference-item.result c.loop-reference-test.true c.reference-item.is))
 
-pub returns-clause-ok : goal.returns-clause-ok
+pub returns : goal.returns
 unfolding missing_in
-returns-clause-ok c = λ before e.
+returns c = λ before e.
     let table = table_of (shared_documents c.args.documents.now) in
     let items : List (String Global) = c.references-reference-items.result.now in
     let whole : map string_bytes (take c.loop-reference.reference-index items) ≡ references_in (compiled_view c.args.document.now) =

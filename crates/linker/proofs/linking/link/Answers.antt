@@ -59,7 +59,7 @@ invariant_of-result g c =
       holder = ap (λ u. find (holds_resource u) ds) uri ∙ ap (λ xs. find (holds_resource c.args.resource.now) (shared_documents xs)) (sym c.deref-2.ensures.value) ∙ c.in_ok-document.ensures.holder;
       is_numbered = c.in_ok-document.ensures.number ∙ ap Some (sym uri);
       by_dynamic_anchor = λ uri name.
-          c.in_ok-dynamic_resources.ensures.ok uri name
+          c.in_ok-dynamic_resources.ensures uri name
           ∙ ap (λ xs. is_some (schema_with_dynamic_anchor (table_of (shared_documents xs)) uri name)) c.deref-3.ensures.value;
     }
 

@@ -6,14 +6,14 @@ use Rattle.uri_ref.proofs.CutTexts.{text_before}
 use Rattle.schema_table.proofs.ResolvedIds.{names_all}
 use Rattle.schema_table.proofs.resources.opened_by.Goals as goal
 
-pub returns-in-Ok-recompose-clause-opened : goal.returns-in-Ok-recompose-clause-opened
-returns-in-Ok-recompose-clause-opened c = λ _.
+pub returns-clause-opened : goal.returns-clause-opened
+returns-clause-opened c = λ _.
     let base = c.args.base.now in
     let id = c.args.id.now in
-    let is : c.parts.result ≡ resolve (split base) (split id) = c.parts.ensures ∙ c.in-Ok.ensures.parts ∙ ap₂ resolve c.split.ensures.parts c.split-reference.ensures.parts in
+    let is : c.parts.result ≡ resolve (split base) (split id) = c.parts.ensures ∙ c.in_ok-resolved.ensures ∙ ap₂ resolve c.split.ensures.parts c.split-reference.ensures.parts in
     let empty : is_empty_fragment ((split id).fragment) ≡ true =
     ap (λ (p : Parts). is_empty_fragment p.fragment) (sym c.split-reference.ensures.parts) ∙ ap is_empty_fragment (sym c.fragment.ensures) ∙ sym c.is_empty_fragment.ensures ∙ c.if-not-is_empty_fragment.false in
     record {
       same = refl;
-      named = (c.in-Ok-recompose.ensures.text ∙ text_before base id c.parts.result c.without_fragment-identifier.result is c.without_fragment-identifier.ensures, names_all base id c.parts.result is empty);
+      named = (c.in_ok-uri.ensures ∙ text_before base id c.parts.result c.without_fragment-identifier.result is c.without_fragment-identifier.ensures, names_all base id c.parts.result is empty);
     }

@@ -2,6 +2,6 @@ use Rattle.std.proofs.Common.{ap₂, ◌∙◌}
 use Rattle.definitions.specs.Resolution.{resolve}
 use Rattle.uri_ref.proofs.absolute_references.absolute_reference.Goals as goal
 
-pub returns-clause-ok : goal.returns-clause-ok
-returns-clause-ok c =
-    c.named_by.ensures.ok c.args.resource.now c.args.reference.now (c.in_ok-resolved.ensures.parts ∙ ap₂ resolve c.split.ensures.parts c.split-2.ensures.parts)
+pub returns : goal.returns
+returns c =
+    c.named_by.ensures c.args.resource.now c.args.reference.now (c.in_ok-resolved.ensures ∙ ap₂ resolve c.split.ensures.parts c.split-2.ensures.parts)

@@ -4,7 +4,7 @@ use Rattle.definitions.specs.Schemas.{Identity, schema_at, opened_schema}
 use Rattle.definitions.specs.Resolution.{target_uri}
 use Rattle.definitions.specs.Uris.{without_fragment}
 use Rattle.basic_output.specs.PointerViews.{origin_view}
-use Rattle.keyword_plans.specs.OpenedResources.{Opens}
+use Rattle.linker.specs.OpenedSchemas.{Opens}
 use Rattle.keyword_plans.specs.ScopeViews.{scope_documents}
 use Rattle.evaluation_context.specs.Moves.{at_origin}
 use Rattle.evaluation_context.specs.Frames.{context_view, frame_standing}

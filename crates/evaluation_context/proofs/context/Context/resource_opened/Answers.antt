@@ -1,5 +1,5 @@
 use Rattle.std.proofs.Common.{sym, ap, subst, ◌∙◌}
-use Rattle.keyword_plans.specs.OpenedResources.{Opens}
+use Rattle.linker.specs.OpenedSchemas.{Opens}
 use Rattle.keyword_plans.specs.ScopeViews.{scope_documents}
 use Rattle.evaluation_context.specs.Frames.{context_view}
 use Rattle.evaluation_context.proofs.context.Context.resource_opened.Goals as goal

@@ -15,7 +15,7 @@ loop-token-preserved c =
     written ∙ sym (append_assoc (fragment_text before) (47 ∷ []) (percent_encoded_text (flat_map escaped_byte (string_bytes token)))) ∙ sym (fragment_text-more before (string_bytes token))
     ∙ ap fragment_text (sym (ap (map string_bytes) (take_more tokens i token c.loop-token-test.true ∙ ap (λ t. take i tokens ++ t ∷ []) (sym c.token-item.is)) ∙ map-append string_bytes (take i tokens) (token ∷ [])))
 
-pub returns-clause-text : goal.returns-clause-text
-returns-clause-text c =
+pub returns : goal.returns
+returns c =
     let all = take_all c.loop-token.token-index c.deref-token-items.result.now c.loop-token-test.false ∙ c.deref-token-items.ensures.value in
     c.loop-token.invariant ∙ ap (λ ts. fragment_text (map string_bytes ts)) all ∙ ap fragment_text c.self.view_is

@@ -2,7 +2,7 @@ use Rattle.std.proofs.Common.{◌≡◌, Bor, Contains, IfOk, IfSome, ap, subst,
 use Rattle.definitions.specs.Schemas.{Schema}
 use Rattle.linker.specs.LinkedDocuments.{linked_schemas}
 use Rattle.linker.specs.declared.linked.Linked.{Linked}
-use Rattle.keyword_plans.specs.OpenedResources.{Opens}
+use Rattle.linker.specs.OpenedSchemas.{Opens}
 use Rattle.keyword_plans.specs.declared.numbered_resources.NumberedResources.{NumberedResources}
 use Rattle.keyword_plans.proofs.compared_resources.ComparedResources.opened.Goals as goal
 

@@ -14,8 +14,8 @@ invariant_of-self c =
       right = All-set (IsSearched (followed_in now.references).now (map (λ uri. uri.now) now.uris.items)) now.searched.items c.in-Some.at c.args.searched c.requires now.right;
     }
 
-pub invariant_of-self-then-len-lt-MOST_KEPT : goal.invariant_of-self-then-len-lt-MOST_KEPT
-invariant_of-self-then-len-lt-MOST_KEPT c =
+pub invariant_of-self-then-len-lt-KEPT_ANCHORS : goal.invariant_of-self-then-len-lt-KEPT_ANCHORS
+invariant_of-self-then-len-lt-KEPT_ANCHORS c =
     let now = c.args.self.now in
     record {
       within = now.within;
@@ -24,8 +24,8 @@ invariant_of-self-then-len-lt-MOST_KEPT c =
           c.push.ensures.items now.right c.requires;
     }
 
-pub invariant_of-self-else-len-lt-MOST_KEPT : goal.invariant_of-self-else-len-lt-MOST_KEPT
-invariant_of-self-else-len-lt-MOST_KEPT c =
+pub invariant_of-self-else-len-lt-KEPT_ANCHORS : goal.invariant_of-self-else-len-lt-KEPT_ANCHORS
+invariant_of-self-else-len-lt-KEPT_ANCHORS c =
     let now = c.args.self.now in
     record {
       within = mod-lt (now.oldest + 1) (omega arith);

@@ -8,4 +8,4 @@ pub returns-clause-named : goal.returns-clause-named
 returns-clause-named c =
     λ s inside same.
     subst (λ (o : Option Schema). IfOk c.target_by.result (λ t. option_map located_view t ≡ o))
-    (one_named c.args.self.now c.args.resource.now c.args.pointer s inside same) c.target_by.ensures.ok
+    (one_named c.args.self.now c.args.resource.now c.args.pointer s inside same) c.target_by.ensures

@@ -3,6 +3,7 @@ use Rattle.std.specs.List.{list_all, position_from}
 use Rattle.definitions.specs.Patterns.{regular_search}
 use Rattle.definitions.specs.Scanning.{scan_fault}
 use Rattle.definitions.specs.Searches.{is_regular, patterns}
+use Rattle.definitions.specs.Values.{is_well_formed}
 use Rattle.json_doc.specs.Docs.{value}
 use Rattle.schema_scan.specs.CompiledDocuments.{compiled_base, compiled_value}
 use Rattle.schema_scan.specs.PatternTables.{holds_pattern}
@@ -15,10 +16,10 @@ use Rattle.schema_scan.proofs.compiled.Compiled.of.Goals as goal
 pub invariant_of-result : goal.invariant_of-result
 unfolding table_uris table_identifiers table_texts table_marks
 invariant_of-result c =
-    let same : value c.in_ok-copied.field-0 ≡ value c.args.document.now = c.in_ok-copied.ensures.ok in
+    let same : value c.in_ok-copy.field-0 ≡ value c.args.document.now = c.in_ok-copy.ensures.ok in
     record {
       faultless = ap (scan_fault (string_bytes c.args.base)) same ∙ c.requires.faultless;
-      well_formed = c.in_ok-copied.ensures.well_formed;
+      well_formed = ap is_well_formed same ∙ c.in_ok-copy.ensures.well_formed;
       regular = ap (is_regular regular_search) same ∙ c.requires.regular;
       built = ap (λ v. list_all (holds_pattern c.args.pattern_table) (patterns v)) same ∙ c.requires.built;
       of_document = subst (λ v. IsTableOf c.args.table (spots [] 0 (string_bytes c.args.base) v)) (sym same) c.requires.of_document;
@@ -30,4 +31,4 @@ invariant_of-result c =
 
 pub returns : goal.returns
 unfolding compiled_base compiled_value
-returns c = (refl, c.in_ok-copied.ensures.ok)
+returns c = (refl, c.in_ok-copy.ensures.ok)

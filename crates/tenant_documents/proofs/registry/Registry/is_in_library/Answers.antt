@@ -8,22 +8,22 @@ use Rattle.tenant_documents.specs.Registries.{registry_view}
 use Rattle.tenant_documents.proofs.Holders.{named_by}
 use Rattle.tenant_documents.proofs.registry.Registry.is_in_library.Goals as goal
 
-pub returns-in-Some-clause-ok : goal.returns-in-Some-clause-ok
+pub returns-in-Some : goal.returns-in-Some
 unfolding registry_view
-returns-in-Some-clause-ok c =
+returns-in-Some c =
     let uri = c.args.canonical_uri.now in
     let library = c.args.self.now.library.value in
     let d = compiled_view c.in-Some.document.value in
     let found : find (holds_resource uri) (listed_documents library) ≡ Some d =
-    ap (λ l. find (holds_resource uri) (listed_documents l)) (sym c.deref.ensures) ∙ sym c.in_ok-document.ensures.ok ∙ ap (option_map (λ x. compiled_view x.value)) c.in-Some.is in
+    ap (λ l. find (holds_resource uri) (listed_documents l)) (sym c.deref.ensures) ∙ sym c.in_ok-document.ensures ∙ ap (option_map (λ x. compiled_view x.value)) c.in-Some.is in
     c.eq.ensures ∙ ap (same_text uri) (c.canonical.ensures ∙ ap (λ x. (compiled_view x).canonical) c.deref-in-Some.ensures)
     ∙ sym (named_by (listed_documents library) uri (Some d) (listed_sound library) found)
 
-pub returns-in-None-clause-ok : goal.returns-in-None-clause-ok
+pub returns-in-None : goal.returns-in-None
 unfolding registry_view
-returns-in-None-clause-ok c =
+returns-in-None c =
     let uri = c.args.canonical_uri.now in
     let library = c.args.self.now.library.value in
     let found : find (holds_resource uri) (listed_documents library) ≡ None =
-    ap (λ l. find (holds_resource uri) (listed_documents l)) (sym c.deref.ensures) ∙ sym c.in_ok-document.ensures.ok ∙ ap (option_map (λ x. compiled_view x.value)) c.in-None.is in
+    ap (λ l. find (holds_resource uri) (listed_documents l)) (sym c.deref.ensures) ∙ sym c.in_ok-document.ensures ∙ ap (option_map (λ x. compiled_view x.value)) c.in-None.is in
     sym (named_by (listed_documents library) uri None (listed_sound library) found)

@@ -9,7 +9,7 @@ use Rattle.std.specs.List.{list_all, slice_index}
 use Rattle.definitions.specs.Values.{Text}
 use Rattle.locations.specs.Steps.{token, tokens}
 use Rattle.locations.specs.declared.step.Step.{Step}
-use Rattle.basic_output.specs.Notations.{IsPushed, kept_text}
+use Rattle.basic_output.specs.Notations.{IsPushed, escaped_text}
 use Rattle.basic_output.specs.StepTexts.{AreTexts, front_text}
 use Rattle.basic_output.specs.Pieces.{are_plain, is_plain}
 use Rattle.basic_output.specs.declared.unit_text.step_texts.Notation.{Notation}
@@ -20,28 +20,28 @@ abbrev IsPlain : Step → Type 0
 IsPlain s = list_all is_plain (token s) ≡ true
 
 -- ---- one step more, and steps less
-front_next : (n : Notation) (k : ℕ) (xs : List Step) (x : Step) → k < length xs → x ≡ get_or xs k x → front_text n (suc k) xs ≡ front_text n k xs ++ kept_text n (token x ∷ [])
+front_next : (n : Notation) (k : ℕ) (xs : List Step) (x : Step) → k < length xs → x ≡ get_or xs k x → front_text n (suc k) xs ≡ front_text n k xs ++ escaped_text n (token x ∷ [])
 front_next n k xs x less is =
-    ap (λ ys. kept_text n (tokens ys)) (take-suc xs k x less ∙ ap (λ y. take k xs ++ y ∷ []) (sym is)) ∙ ap (kept_text n) (map-append token (take k xs) (x ∷ []))
+    ap (λ ys. escaped_text n (tokens ys)) (take-suc xs k x less ∙ ap (λ y. take k xs ++ y ∷ []) (sym is)) ∙ ap (escaped_text n) (map-append token (take k xs) (x ∷ []))
     ∙ kept_append n (tokens (take k xs)) (token x ∷ [])
 
 -- the first ones and the rest
-parts : (n : Notation) (k : ℕ) (xs : List Step) → kept_text n (tokens xs) ≡ front_text n k xs ++ kept_text n (tokens (drop k xs))
-parts n k xs = ap (kept_text n) (ap tokens (sym (take-append-drop k xs)) ∙ map-append token (take k xs) (drop k xs)) ∙ kept_append n (tokens (take k xs)) (tokens (drop k xs))
+parts : (n : Notation) (k : ℕ) (xs : List Step) → escaped_text n (tokens xs) ≡ front_text n k xs ++ escaped_text n (tokens (drop k xs))
+parts n k xs = ap (escaped_text n) (ap tokens (sym (take-append-drop k xs)) ∙ map-append token (take k xs) (drop k xs)) ∙ kept_append n (tokens (take k xs)) (tokens (drop k xs))
 
-led : (n : Notation) (ys : List Step) → 0 < length ys → (rest : Text) × (kept_text n (tokens ys) ≡ 47 ∷ rest)
-led n [] some = absurd (omega arith)
-led n (y ∷ ys) some = kept_led n (token y) (tokens ys)
+follows_comma : (n : Notation) (ys : List Step) → 0 < length ys → (rest : Text) × (escaped_text n (tokens ys) ≡ 47 ∷ rest)
+follows_comma n [] some = absurd (omega arith)
+follows_comma n (y ∷ ys) some = kept_led n (token y) (tokens ys)
 
 -- behind the text of fewer steps a `/` begins the rest
 front_split : (n : Notation) (k m : ℕ) (xs : List Step) → k < m → m ≤ length xs → (rest : Text) × (front_text n m xs ≡ front_text n k xs ++ 47 ∷ rest)
 front_split n k m xs less within =
-    let rest = led n (drop k (take m xs)) (omega (arith, length-drop k (take m xs), length-take m xs)) in
-    (rest.0, parts n k (take m xs) ∙ ap₂ (λ zs t. kept_text n (tokens zs) ++ t) (take-take k m xs (omega arith)) rest.1)
+    let rest = follows_comma n (drop k (take m xs)) (omega (arith, length-drop k (take m xs), length-take m xs)) in
+    (rest.0, parts n k (take m xs) ∙ ap₂ (λ zs t. escaped_text n (tokens zs) ++ t) (take-take k m xs (omega arith)) rest.1)
 
 -- ---- beside other steps, of which the first ones are the same
 front_same : (n : Notation) (k m : ℕ) (xs ys : List Step) → k ≤ m → take m ys ≡ take m xs → front_text n k xs ≡ front_text n k ys
-front_same n k m xs ys le same = ap (λ zs. kept_text n (tokens zs)) (sym (take-take k m xs le) ∙ ap (take k) (sym same) ∙ take-take k m ys le)
+front_same n k m xs ys le same = ap (λ zs. escaped_text n (tokens zs)) (sym (take-take k m xs le) ∙ ap (take k) (sym same) ∙ take-take k m ys le)
 
 moved : (n : Notation) (t : Text) (starts : List ℕ) (from : ℕ) (xs ys : List Step) → length starts ≤ length ys → take (length starts) ys ≡ take (length starts) xs → AreTexts n t starts from xs → AreTexts n t starts from ys
 moved n t starts from xs ys within same are =
@@ -104,7 +104,7 @@ fewer_texts n t cut starts left from xs k start less is text kept_starts are =
 
 -- ---- one text more: of a plain step, and of another
 more_texts : (n : Notation) (old new : Text) (starts more : List ℕ) (from : ℕ) (xs : List Step) (x : Step) → length starts < length xs → x ≡ get_or xs (length starts) x
-    → AreTexts n old starts from xs → new ≡ old ++ kept_text n (token x ∷ []) → more ≡ starts ++ length old ∷ [] → (next : ℕ)
+    → AreTexts n old starts from xs → new ≡ old ++ escaped_text n (token x ∷ []) → more ≡ starts ++ length old ∷ [] → (next : ℕ)
     → ((k : ℕ) (d : Step) → next ≤ k → k < length more → IsPlain (get_or xs k d)) → AreTexts n new more next xs
 more_texts n old new starts more from xs x less is are text started next plain =
     let m = length starts in
@@ -115,7 +115,7 @@ more_texts n old new starts more from xs x less is are text started next plain =
         | inl last ↦ ap (λ i. get_or (starts ++ length old ∷ []) i d) last ∙ get_or-append_seam starts (length old) [] d ∙ ap length are.front ∙ ap (λ i. length (front_text n i xs)) (sym last)
         | inr before ↦ get_or-append starts (length old ∷ []) d k before ∙ are.at k d before
       ];
-      front = text ∙ ap (λ t. t ++ kept_text n (token x ∷ [])) are.front ∙ sym (front_next n m xs x less is) ∙ ap (λ i. front_text n i xs) (sym count);
+      front = text ∙ ap (λ t. t ++ escaped_text n (token x ∷ [])) are.front ∙ sym (front_next n m xs x less is) ∙ ap (λ i. front_text n i xs) (sym count);
       plain = plain;
     }
 
@@ -137,18 +137,18 @@ other_more n old new starts more from xs x plain less is are pushed started next
     more_texts n old new starts more from xs x less is are pushed.text started next (λ k d le under. absurd (omega (arith, last, le, under)))
 
 -- ---- the text of all, and behind some
-pub whole : (n : Notation) (t : Text) (starts : List ℕ) (from : ℕ) (xs : List Step) → AreTexts n t starts from xs → length starts ≡ length xs → t ≡ kept_text n (tokens xs)
-whole n t starts from xs are all = are.front ∙ ap (λ i. kept_text n (tokens (take i xs))) all ∙ ap (λ ys. kept_text n (tokens ys)) (take-length xs)
+pub whole : (n : Notation) (t : Text) (starts : List ℕ) (from : ℕ) (xs : List Step) → AreTexts n t starts from xs → length starts ≡ length xs → t ≡ escaped_text n (tokens xs)
+whole n t starts from xs are all = are.front ∙ ap (λ i. escaped_text n (tokens (take i xs))) all ∙ ap (λ ys. escaped_text n (tokens ys)) (take-length xs)
 
 pub behind : (n : Notation) (t rest : Text) (starts : List ℕ) (from : ℕ) (xs : List Step) (k start : ℕ) → AreTexts n t starts from xs → length starts ≡ length xs → k < length starts → start ≡ get_or starts k start → rest ≡ drop start t
-    → rest ≡ kept_text n (drop k (tokens xs))
+    → rest ≡ escaped_text n (drop k (tokens xs))
 behind n t rest starts from xs k start are all less is cut =
     let there = starts_at n t starts from xs k start are less is in
     let split : t ≡ front_text n k xs ++ rest = there.split ∙ ap (λ u. front_text n k xs ++ u) (sym (cut ∙ ap₂ drop there.at there.split ∙ drop-append_seam (front_text n k xs) (47 ∷ there.rest))) in
-    append_cancel_left (front_text n k xs) rest (kept_text n (tokens (drop k xs))) (sym split ∙ whole n t starts from xs are all ∙ parts n k xs) ∙ ap (kept_text n) (sym (drop-map token k xs))
+    append_cancel_left (front_text n k xs) rest (escaped_text n (tokens (drop k xs))) (sym split ∙ whole n t starts from xs are all ∙ parts n k xs) ∙ ap (escaped_text n) (sym (drop-map token k xs))
 
-pub none_left : (n : Notation) (rest : Text) (xs : List Step) (k : ℕ) → length xs ≤ k → rest ≡ [] → rest ≡ kept_text n (drop k (tokens xs))
-none_left n rest xs k le none = none ∙ sym (ap (kept_text n) (drop_all k (tokens xs) (omega (arith, le, length-map xs token))) ∙ kept_none n)
+pub none_left : (n : Notation) (rest : Text) (xs : List Step) (k : ℕ) → length xs ≤ k → rest ≡ [] → rest ≡ escaped_text n (drop k (tokens xs))
+none_left n rest xs k le none = none ∙ sym (ap (escaped_text n) (drop_all k (tokens xs) (omega (arith, le, length-map xs token))) ∙ kept_none n)
 
 -- where all of them are plain, the text is that of a fragment too
 all_plain : (k : ℕ) (xs : List Step) → ((i : ℕ) (d : Step) → k ≤ i → i < length xs → IsPlain (get_or xs i d)) → are_plain (drop k (tokens xs)) ≡ true
@@ -158,7 +158,7 @@ all_plain zero (x ∷ xs) h = ap₂ (λ a b. a && b) (h 0 x (omega arith) (omega
 all_plain (suc k) (x ∷ xs) h = all_plain k xs (λ i d le less. h (suc i) d (omega (arith, le)) (omega (arith, less)))
 
 pub plain_onward : (t : Text) (starts : List ℕ) (from : ℕ) (xs : List Step) (k : ℕ) → AreTexts notation.Pointer t starts from xs → length starts ≡ length xs → from ≤ k
-    → kept_text notation.Pointer (drop k (tokens xs)) ≡ kept_text notation.Fragment (drop k (tokens xs))
+    → escaped_text notation.Pointer (drop k (tokens xs)) ≡ escaped_text notation.Fragment (drop k (tokens xs))
 plain_onward t starts from xs k are all le =
     let plain = all_plain k xs (λ i d under less. are.plain i d (omega (arith, le, under)) (omega (arith, less, all))) in
     plain_kept notation.Pointer (drop k (tokens xs)) plain ∙ sym (plain_kept notation.Fragment (drop k (tokens xs)) plain)

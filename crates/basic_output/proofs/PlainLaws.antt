@@ -15,7 +15,7 @@ use Rattle.definitions.specs.Bytes.{is_capital, is_small}
 use Rattle.definitions.specs.Pointers.{escaped_byte, fragment_text, hex_digit, is_fragment_byte, percent_encoded_text, pointer_text}
 use Rattle.definitions.specs.Values.{Text, same_text}
 use Rattle.std.proofs.lemmas.Grind.{flat_map-append}
-use Rattle.basic_output.specs.Notations.{IsPushed, kept_text, notation_text, stands_in_pointer}
+use Rattle.basic_output.specs.Notations.{IsPushed, escaped_text, notation_text, stands_in_pointer}
 use Rattle.basic_output.specs.declared.unit_text.step_texts.Notation.{Notation}
 use Rattle.basic_output.specs.declared.unit_text.step_texts.Notation.TheVariants as notation
 use Rattle.basic_output.specs.Pieces.{are_plain, is_plain, is_unescaped, plain_text}
@@ -48,8 +48,8 @@ one_more p xs i d less h g =
     let next : i + 1 ≡ suc i = omega arith in
     ap (λ n. list_all p (take n xs)) next ∙ ap (list_all p) (take-suc xs i d less) ∙ all_of_both p (take i xs) (get_or xs i d ∷ []) h (ap (λ b. b && true) g)
 
-pub message : (t : Text) → list_all is_unescaped t ≡ true → quoted (t ++ codes " is not met") ≡ 34 ∷ (t ++ codes " is not met\"")
-message t h =
+pub unescaped_message : (t : Text) → list_all is_unescaped t ≡ true → quoted (t ++ codes " is not met") ≡ 34 ∷ (t ++ codes " is not met\"")
+unescaped_message t h =
     quoted_same (t ++ codes " is not met") (escape_same (t ++ codes " is not met") (all_of_both is_unescaped t (codes " is not met") h refl))
     ∙ ap (λ s. 34 ∷ s) (append_assoc t (codes " is not met") (34 ∷ []))
 
@@ -92,10 +92,10 @@ plain_pointer (t ∷ ts) h =
 
 -- a test that a `/` and all plain bytes pass
 all_pass : (p : ℕ → Bool) → p 47 ≡ true → ((x : ℕ) → is_plain x ≡ true → p x ≡ true) → (ts : List Text) → ArePlain ts → list_all p (plain_text ts) ≡ true
-all_pass p led h [] e = refl
-all_pass p led h (t ∷ ts) e =
+all_pass p follows_comma h [] e = refl
+all_pass p follows_comma h (t ∷ ts) e =
     let q = and_parts (list_all is_plain t) _ e in
-    ap₂ (λ a b. a && b) led (all_of_both p t (plain_text ts) (passes t q.0) (all_pass p led h ts q.1))
+    ap₂ (λ a b. a && b) follows_comma (all_of_both p t (plain_text ts) (passes t q.0) (all_pass p follows_comma h ts q.1))
   where
     passes : (xs : Text) → list_all is_plain xs ≡ true → list_all p xs ≡ true
     passes [] g = refl
@@ -123,14 +123,14 @@ notation_append : (n : Notation) (ts us : List Text) → notation_text n (ts ++ 
 notation_append notation.Pointer ts us = pointer_append ts us
 notation_append notation.Fragment ts us = fragment_append ts us
 
-pub kept_append : (n : Notation) (ts us : List Text) → kept_text n (ts ++ us) ≡ kept_text n ts ++ kept_text n us
+pub kept_append : (n : Notation) (ts us : List Text) → escaped_text n (ts ++ us) ≡ escaped_text n ts ++ escaped_text n us
 kept_append n ts us = ap escape (notation_append n ts us) ∙ flat_map-append escape_byte (notation_text n ts) (notation_text n us)
 
-pub kept_none : (n : Notation) → kept_text n [] ≡ []
+pub kept_none : (n : Notation) → escaped_text n [] ≡ []
 kept_none notation.Pointer = refl
 kept_none notation.Fragment = refl
 
-pub kept_led : (n : Notation) (t : Text) (ts : List Text) → (rest : Text) × (kept_text n (t ∷ ts) ≡ 47 ∷ rest)
+pub kept_led : (n : Notation) (t : Text) (ts : List Text) → (rest : Text) × (escaped_text n (t ∷ ts) ≡ 47 ∷ rest)
 unfolding escape_byte
 kept_led notation.Pointer t ts = (escape (flat_map escaped_byte t ++ pointer_text ts), refl)
 kept_led notation.Fragment t ts = (escape (percent_encoded_text (flat_map escaped_byte t ++ pointer_text ts)), refl)
@@ -139,7 +139,7 @@ notation_plain : (n : Notation) (ts : List Text) → ArePlain ts → notation_te
 notation_plain notation.Pointer ts h = plain_pointer ts h
 notation_plain notation.Fragment ts h = plain_fragment ts h
 
-pub plain_kept : (n : Notation) (ts : List Text) → ArePlain ts → kept_text n ts ≡ plain_text ts
+pub plain_kept : (n : Notation) (ts : List Text) → ArePlain ts → escaped_text n ts ≡ plain_text ts
 plain_kept n ts h = ap escape (notation_plain n ts h) ∙ escape_same (plain_text ts) (all_pass is_unescaped refl (λ x e. (plain x e).in_string) ts h)
 
 -- a token that stands in a pointer as it is
@@ -148,7 +148,7 @@ token_byte true b x h = cc
 token_byte false true x h = cc
 token_byte false false x h = refl
 
-pub unescaped_token : (t : Text) → list_all stands_in_pointer t ≡ true → 47 ∷ escape t ≡ kept_text notation.Pointer (t ∷ [])
+pub unescaped_token : (t : Text) → list_all stands_in_pointer t ≡ true → 47 ∷ escape t ≡ escaped_text notation.Pointer (t ∷ [])
 unfolding escape_byte
 unescaped_token t h = ap (λ u. 47 ∷ escape u) (sym (append-nil (flat_map escaped_byte t) ∙ kept escaped_byte stands_in_pointer (λ x e. token_byte (x == 126) (x == 47) x e) t h))
 

@@ -72,7 +72,7 @@ span_moved t u h s same within le is =
         within = omega (arith, le, within);
         start_whole = ap is_utf8 (front s.start (omega (arith, le, is.ordered))) ∙ is.start_whole;
         end_whole = ap is_utf8 end ∙ is.end_whole;
-        led = range_same u t s.start (s.start - 1) s.start (front s.start (omega (arith, le, is.ordered))) (omega arith) (omega arith) ∙ is.led;
+        follows_comma = range_same u t s.start (s.start - 1) s.start (front s.start (omega (arith, le, is.ordered))) (omega arith) (omega arith) ∙ is.follows_comma;
       },
       text_of_front u s is.ordered ∙ ap (drop s.start) end ∙ sym (text_of_front t s is.ordered),
     )
@@ -110,7 +110,7 @@ new_span t more u s text old_whole both at end =
         within = omega (arith, end);
         start_whole = ap₂ (λ i b. is_utf8 (take i b)) start is ∙ ap is_utf8 (take-append_seam comma more) ∙ is_utf8-from_IsUtf8 comma whole;
         end_whole = ap (λ j. is_utf8 (take j u)) end ∙ ap is_utf8 (take-length u) ∙ is_utf8-from_IsUtf8 u both;
-        led = comma_at_end t u s.start start (ap₂ (λ i b. take i b) start is ∙ take-append_seam comma more);
+        follows_comma = comma_at_end t u s.start start (ap₂ (λ i b. take i b) start is ∙ take-append_seam comma more);
       },
       text_of_front u s ordered ∙ ap₂ (λ i j. drop i (take j u)) start end ∙ ap (drop (length comma)) (take-length u ∙ is) ∙ drop-append_seam comma more,
     )
@@ -160,7 +160,7 @@ merged t a b first next is = record {
   within = next.within;
   start_whole = first.start_whole;
   end_whole = next.end_whole;
-  led = first.led;
+  follows_comma = first.follows_comma;
 }
 
 range_split : (t : Text) (i j k : ℕ) → i ≤ j → j ≤ k → slice_range t i k ≡ slice_range t i j ++ slice_range t j k
@@ -169,16 +169,16 @@ range_split t i j k first next =
     ∙ ap₂ (λ a b. a ++ b) (range_is (take k t) i j first ∙ ap (drop i) (take-take j k t next) ∙ sym (range_is t i j first)) (sym (range_is t j k next))
 
 some_in_front : (t : Text) (start : ℕ) → slice_range t (start - 1) start ≡ 44 ∷ [] → 0 < start
-some_in_front t zero led = cc
-some_in_front t (suc n) led = omega arith
+some_in_front t zero follows_comma = cc
+some_in_front t (suc n) follows_comma = omega arith
 
 pub merged_text : (t : Text) (a b : Span) → IsSpan t a → IsSpan t b → b.start - 1 ≡ a.end
     → span_text t (record { start = a.start; end = b.end; position = b.position }) ≡ span_text t a ++ 44 ∷ span_text t b
 unfolding span_text
 merged_text t a b first next is =
-    let some : 0 < b.start = some_in_front t b.start next.led in
+    let some : 0 < b.start = some_in_front t b.start next.follows_comma in
     range_split t a.start a.end b.end first.ordered (omega (arith, next.ordered, is))
-    ∙ ap (λ r. slice_range t a.start a.end ++ r) (range_split t a.end b.start b.end (omega (arith, is)) next.ordered ∙ ap (λ c. c ++ slice_range t b.start b.end) (ap (λ i. slice_range t i b.start) (sym is) ∙ next.led))
+    ∙ ap (λ r. slice_range t a.start a.end ++ r) (range_split t a.end b.start b.end (omega (arith, is)) next.ordered ∙ ap (λ c. c ++ slice_range t b.start b.end) (ap (λ i. slice_range t i b.start) (sym is) ∙ next.follows_comma))
 
 -- ---- what was written of them
 -- a run that goes on, or another one that begins

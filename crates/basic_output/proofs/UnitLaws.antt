@@ -9,12 +9,12 @@ use Rattle.definitions.specs.Texts.{text}
 use Rattle.definitions.specs.Schemas.{Identity}
 use Rattle.definitions.specs.Values.{Text, Value, string}
 use Rattle.basic_output.specs.declared.location.Location.{Location}
-use Rattle.basic_output.specs.declared.unit_text.saying.Form.{Form}
-use Rattle.basic_output.specs.declared.unit_text.saying.Form.TheVariants.{NotMet, Plain, Written}
-use Rattle.basic_output.specs.declared.unit_text.saying.Said.{Said}
-use Rattle.basic_output.specs.Parts.{AreTextsOf, formed_text, parts_text, path_key, quotation, said_ending, said_text, text_of_unit, unit_end}
+use Rattle.basic_output.specs.declared.unit_text.message_buffer.Form.{Form}
+use Rattle.basic_output.specs.declared.unit_text.message_buffer.Form.TheVariants.{NotMet, Unescaped, Written}
+use Rattle.basic_output.specs.declared.unit_text.message_buffer.Message.{Message}
+use Rattle.basic_output.specs.Parts.{AreTextsOf, formed_text, parts_text, path_key, quotation, message_ending, message_text, text_of_unit, unit_end}
 use Rattle.basic_output.specs.Pieces.{IsHead, is_unescaped, kind_key, unit_text}
-use Rattle.basic_output.proofs.PlainLaws.{fragment_append, message}
+use Rattle.basic_output.proofs.PlainLaws.{fragment_append, unescaped_message}
 
 -- a position past the end is the end
 pub insert_min : {A : Type 0} (xs : List A) (i : ℕ) (x : A) → insert xs (min i (length xs)) x ≡ insert xs i x
@@ -50,19 +50,19 @@ places l {origin} {onward} {instance_location} {path} are =
     ∙ ap (λ t. codes ",\"instanceLocation\":" ++ (quoted here ++ (codes ",\"keywordLocation\":" ++ t))) (closed l.path.now (pointer_text path) (codes "}") are.path)
 
 -- the three texts around what it says
-around : (f : Form) (t rest : Text) → quotation f ++ (t ++ (said_ending f ++ rest)) ≡ formed_text f t ++ (codes ",\"instanceLocation\":\"" ++ rest)
+around : (f : Form) (t rest : Text) → quotation f ++ (t ++ (message_ending f ++ rest)) ≡ formed_text f t ++ (codes ",\"instanceLocation\":\"" ++ rest)
 around NotMet t rest = ap (λ u. 34 ∷ u) (sym (append_assoc t (codes " is not met\"") (codes ",\"instanceLocation\":\"" ++ rest)))
-around Plain t rest = ap (λ u. 34 ∷ u) (sym (append_assoc t (34 ∷ []) (codes ",\"instanceLocation\":\"" ++ rest)))
+around Unescaped t rest = ap (λ u. 34 ∷ u) (sym (append_assoc t (34 ∷ []) (codes ",\"instanceLocation\":\"" ++ rest)))
 around Written t rest = refl
 
 -- of its parts
-pub unit_parts : (annotates : Bool) (l : Location) (v : Value) (s : Said) → said_text s ≡ text v → parts_text (record { annotates = annotates; location = l; said = s }) ≡ text_of_unit annotates l v
-unit_parts annotates l v s said =
+pub unit_parts : (annotates : Bool) (l : Location) (v : Value) (s : Message) → message_text s ≡ text v → parts_text (record { annotates = annotates; location = l; message = s }) ≡ text_of_unit annotates l v
+unit_parts annotates l v s message =
     let rest = l.instance_location.now ++ (path_key ++ (l.path.now ++ unit_end)) in
     let kind = kind_key annotates in
     ap (λ t. l.head.now ++ (l.onward.now ++ t))
-    (append_assoc (34 ∷ kind) (quotation s.form) (s.text.now ++ (said_ending s.form ++ rest))
-    ∙ ap (λ t. 34 ∷ (kind ++ t)) (around s.form s.text.now rest ∙ ap (λ t. t ++ (codes ",\"instanceLocation\":\"" ++ rest)) said))
+    (append_assoc (34 ∷ kind) (quotation s.form) (s.text.now ++ (message_ending s.form ++ rest))
+    ∙ ap (λ t. 34 ∷ (kind ++ t)) (around s.form s.text.now rest ∙ ap (λ t. t ++ (codes ",\"instanceLocation\":\"" ++ rest)) message))
 
 -- where the texts are those of a location, it is the unit's text there
 pub unit_located : (annotates : Bool) (l : Location) (v : Value) (origin : Identity) (onward instance_location path : Pointer) → AreTextsOf l origin onward instance_location path
@@ -73,5 +73,5 @@ unit_located annotates l v origin onward instance_location path are =
     ap (λ t. l.head.now ++ (l.onward.now ++ (34 ∷ (kind ++ (text v ++ t))))) (places l are)
     ∙ opened origin.0 origin.1 onward l.head.now l.onward.now (kind ++ (text v ++ places_text instance_location path)) are.head are.onward
 
-pub said_not_met : (name : Text) → list_all is_unescaped name ≡ true → formed_text NotMet name ≡ text (string (name ++ codes " is not met"))
-said_not_met name unescaped = sym (message name unescaped)
+pub message_not_met : (name : Text) → list_all is_unescaped name ≡ true → formed_text NotMet name ≡ text (string (name ++ codes " is not met"))
+message_not_met name unescaped = sym (unescaped_message name unescaped)

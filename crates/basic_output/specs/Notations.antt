@@ -18,10 +18,10 @@ abbrev pub stands_in_pointer : ℕ → Bool
 stands_in_pointer c = not (c == tilde) && not (c == slash)
 
 -- the text of a pointer in this notation, as it stands in a string of JSON
-abbrev pub kept_text : Notation → Pointer → Text
-kept_text n p = escape (notation_text n p)
+abbrev pub escaped_text : Notation → Pointer → Text
+escaped_text n p = escape (notation_text n p)
 
 -- the token's text is appended, and where the token is told to be plain, it is
 pub record IsPushed (n : Notation) (token : Text) (plain : Bool) (old new : Text) : Type 0 where
-  pub text : new ≡ old ++ kept_text n (token ∷ [])
+  pub text : new ≡ old ++ escaped_text n (token ∷ [])
   pub is_plain : plain ≡ true → list_all is_plain token ≡ true

@@ -7,10 +7,10 @@ use Rattle.definitions.specs.Texts.{text}
 use Rattle.definitions.specs.Values.{Text, Value}
 use Rattle.basic_output.specs.Pieces.{IsHead, kind_key}
 use Rattle.basic_output.specs.declared.location.Location.{Location}
-use Rattle.basic_output.specs.declared.unit_text.saying.Form.{Form}
-use Rattle.basic_output.specs.declared.unit_text.saying.Form.TheVariants.{NotMet, Plain, Written}
+use Rattle.basic_output.specs.declared.unit_text.message_buffer.Form.{Form}
+use Rattle.basic_output.specs.declared.unit_text.message_buffer.Form.TheVariants.{NotMet, Unescaped, Written}
 use Rattle.basic_output.specs.declared.unit_text.UnitParts.{UnitParts}
-use Rattle.basic_output.specs.declared.unit_text.saying.Said.{Said}
+use Rattle.basic_output.specs.declared.unit_text.message_buffer.Message.{Message}
 
 -- what stands between the instance location and the path, and behind the path
 abbrev pub path_key : Text
@@ -22,36 +22,36 @@ unit_end = codes "\"}"
 -- what stands before the text of what the unit says, and behind it, up to the instance location
 abbrev pub quotation : Form → Text
 quotation NotMet = 34 ∷ []
-quotation Plain = 34 ∷ []
+quotation Unescaped = 34 ∷ []
 quotation Written = []
 
-abbrev pub said_opening : Bool → Form → Text
-said_opening annotates form = (34 ∷ kind_key annotates) ++ quotation form
+abbrev pub message_opening : Bool → Form → Text
+message_opening annotates form = (34 ∷ kind_key annotates) ++ quotation form
 
-abbrev pub said_ending : Form → Text
-said_ending NotMet = codes " is not met\",\"instanceLocation\":\""
-said_ending Plain = codes "\",\"instanceLocation\":\""
-said_ending Written = codes ",\"instanceLocation\":\""
+abbrev pub message_ending : Form → Text
+message_ending NotMet = codes " is not met\",\"instanceLocation\":\""
+message_ending Unescaped = codes "\",\"instanceLocation\":\""
+message_ending Written = codes ",\"instanceLocation\":\""
 
 -- what it says
 abbrev pub formed_text : Form → Text → Text
 formed_text NotMet name = 34 ∷ (name ++ codes " is not met\"")
-formed_text Plain string = 34 ∷ (string ++ 34 ∷ [])
+formed_text Unescaped string = 34 ∷ (string ++ 34 ∷ [])
 formed_text Written value = value
 
-abbrev pub said_text : Said → Text
-said_text s = formed_text s.form s.text.now
+abbrev pub message_text : Message → Text
+message_text s = formed_text s.form s.text.now
 
 -- the unit
 abbrev pub parts_text : UnitParts → Text
 parts_text u =
-    u.location.head.now ++ (u.location.onward.now ++ (said_opening u.annotates u.said.form ++ (u.said.text.now ++ (said_ending u.said.form
+    u.location.head.now ++ (u.location.onward.now ++ (message_opening u.annotates u.message.form ++ (u.message.text.now ++ (message_ending u.message.form
     ++ (u.location.instance_location.now ++ (path_key ++ (u.location.path.now ++ unit_end)))))))
 
 -- how long the texts are that differ from unit to unit
 abbrev pub texts_length : UnitParts → ℕ
 texts_length u =
-    length u.location.head.now + (length u.location.onward.now + (length u.said.text.now + (length u.location.instance_location.now + length u.location.path.now)))
+    length u.location.head.now + (length u.location.onward.now + (length u.message.text.now + (length u.location.instance_location.now + length u.location.path.now)))
 
 -- the text of a unit at a location that says a value
 abbrev pub text_of_unit : Bool → Location → Value → Text

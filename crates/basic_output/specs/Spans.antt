@@ -14,7 +14,7 @@ pub record IsSpan (t : Text) (s : Span) : Type 0 where
   pub within : s.end ≤ length t
   pub start_whole : is_utf8 (take s.start t) ≡ true
   pub end_whole : is_utf8 (take s.end t) ≡ true
-  pub led : slice_range t (s.start - 1) s.start ≡ 44 ∷ []
+  pub follows_comma : slice_range t (s.start - 1) s.start ≡ 44 ∷ []
 
 -- whether none ends before the one before it, nor before this
 abbrev pub ascends : ℕ → List Span → Bool

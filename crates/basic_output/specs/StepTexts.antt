@@ -5,14 +5,14 @@ use Rattle.definitions.specs.Values.{Text}
 use Rattle.locations.specs.Steps.{token, tokens}
 use Rattle.locations.specs.declared.step.Step.{Step}
 use Rattle.basic_output.specs.Buffers.{buffer_text}
-use Rattle.basic_output.specs.Notations.{kept_text}
+use Rattle.basic_output.specs.Notations.{escaped_text}
 use Rattle.basic_output.specs.Pieces.{is_plain}
 use Rattle.basic_output.specs.declared.unit_text.step_texts.Notation.{Notation}
 use Rattle.basic_output.specs.declared.unit_text.step_texts.StepTexts.{StepTexts}
 
 -- the text of the first k steps
 abbrev pub front_text : Notation → ℕ → List Step → Text
-front_text n k steps = kept_text n (tokens (take k steps))
+front_text n k steps = escaped_text n (tokens (take k steps))
 
 -- of the first steps of a list, where all from there on are written in the same way in a pointer and in its fragment, and nothing of
 -- them is escaped in a string

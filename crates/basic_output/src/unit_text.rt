@@ -2,14 +2,14 @@
 
 ghost use Rattle.std.specs.Prelude.{◌≡◌, ◌+◌, ◌≤◌, ◌∷◌, ◌++◌, if◌then◌else◌, is_ok, length, IfSome};
 ghost use Rattle.basic_output.specs.Buffers.{buffer_text};
-ghost use Rattle.basic_output.specs.Parts.{parts_text, said_ending, said_opening, text_of_unit, texts_length};
+ghost use Rattle.basic_output.specs.Parts.{parts_text, message_ending, message_opening, text_of_unit, texts_length};
 ghost use Rattle.basic_output.specs.Sayings.{says_value};
 ghost use Rattle.basic_output.specs.WrittenOver.{IsWrittenOver};
 
 mod buffer;
 mod escaping;
+mod message_buffer;
 mod placing;
-mod saying;
 mod step_texts;
 
 use crate::location::Location;
@@ -17,8 +17,8 @@ use crate::says::Says;
 pub(crate) use buffer::TextBuffer;
 use buffer::write;
 pub(crate) use escaping::{are_unescaped, push_escaped};
-pub(crate) use saying::Saying;
-use saying::{Form, Said};
+pub(crate) use message_buffer::MessageBuffer;
+use message_buffer::{Form, Message};
 use std::alloc::AllocError;
 pub(crate) use step_texts::Notation;
 pub use step_texts::StepTexts;
@@ -28,7 +28,7 @@ pub use step_texts::StepTexts;
 struct UnitParts<'s> {
     annotates: bool,
     location: Location<'s>,
-    said: Said<'s>,
+    message: Message<'s>,
 }
 
 /// Appends a comma and the text of a unit: of an annotation, or else of an error. What the unit says may be written apart first.
@@ -37,7 +37,7 @@ struct UnitParts<'s> {
 #[tactic(auto, unfolding(crate::specs::Buffers::buffer_text), using(crate::proofs::UnitLaws::unit_parts))]
 pub(crate) fn append_unit(
     out: &mut TextBuffer,
-    saying: &mut Saying,
+    message_buffer: &mut MessageBuffer,
     annotates: bool,
     location: Location<'_>,
     says: Says<'_, '_>,
@@ -47,11 +47,11 @@ pub(crate) fn append_unit(
         ++ 44 ∷ text_of_unit annotates location.entry (says_value says.entry)
         else buffer_text out.old) }
 {
-    let said = saying.said(says)?;
+    let message = message_buffer.message(says)?;
     let unit = UnitParts {
         annotates,
         location,
-        said,
+        message,
     };
     out.make_room(room_for(unit).ok_or(AllocError)?)?;
     out.len = write_unit(out.bytes.as_mut_slice(), out.len, unit);
@@ -66,7 +66,7 @@ fn room_for(unit: UnitParts<'_>) -> Option<usize>
     FRAME
         .checked_add(unit.location.head.len())?
         .checked_add(unit.location.onward.len())?
-        .checked_add(unit.said.text.len())?
+        .checked_add(unit.message.text.len())?
         .checked_add(unit.location.instance_location.len())?
         .checked_add(unit.location.path.len())
 }
@@ -84,9 +84,9 @@ fn write_unit(bytes: &mut [u8], start: usize, unit: UnitParts<'_>) -> usize
     let head = write(bytes, start, ",");
     let onward = write(bytes, head, unit.location.head);
     let opening = write(bytes, onward, unit.location.onward);
-    let said = write_opening(bytes, opening, unit.annotates, unit.said.form);
-    let ending = write(bytes, said, unit.said.text);
-    let instance_location = write_ending(bytes, ending, unit.said.form);
+    let message = write_opening(bytes, opening, unit.annotates, unit.message.form);
+    let ending = write(bytes, message, unit.message.text);
+    let instance_location = write_ending(bytes, ending, unit.message.form);
     let key = write(bytes, instance_location, unit.location.instance_location);
     let path = write(bytes, key, "\",\"keywordLocation\":\"");
     let end = write(bytes, path, unit.location.path);
@@ -98,14 +98,15 @@ fn write_unit(bytes: &mut [u8], start: usize, unit: UnitParts<'_>) -> usize
 fn write_opening(bytes: &mut [u8], start: usize, annotates: bool, form: Form) -> usize
     requires { start + 17 ≤ length bytes.old }
     ensures end { result ≤ start + 17 }
-    ensures written { IsWrittenOver start result (said_opening annotates form) bytes.old bytes.new }
+    ensures written { IsWrittenOver start result
+        (message_opening annotates form) bytes.old bytes.new }
     ensures len { length bytes.new ≡ length bytes.old }
 {
     match (annotates, form) {
         (true, Form::Written) => write(bytes, start, "\",\"annotation\":"),
-        (true, Form::NotMet | Form::Plain) => write(bytes, start, "\",\"annotation\":\""),
+        (true, Form::NotMet | Form::Unescaped) => write(bytes, start, "\",\"annotation\":\""),
         (false, Form::Written) => write(bytes, start, "\",\"error\":"),
-        (false, Form::NotMet | Form::Plain) => write(bytes, start, "\",\"error\":\""),
+        (false, Form::NotMet | Form::Unescaped) => write(bytes, start, "\",\"error\":\""),
     }
 }
 
@@ -113,12 +114,12 @@ fn write_opening(bytes: &mut [u8], start: usize, annotates: bool, form: Form) ->
 fn write_ending(bytes: &mut [u8], start: usize, form: Form) -> usize
     requires { start + 40 ≤ length bytes.old }
     ensures end { result ≤ start + 40 }
-    ensures written { IsWrittenOver start result (said_ending form) bytes.old bytes.new }
+    ensures written { IsWrittenOver start result (message_ending form) bytes.old bytes.new }
     ensures len { length bytes.new ≡ length bytes.old }
 {
     match form {
         Form::NotMet => write(bytes, start, " is not met\",\"instanceLocation\":\""),
-        Form::Plain => write(bytes, start, "\",\"instanceLocation\":\""),
+        Form::Unescaped => write(bytes, start, "\",\"instanceLocation\":\""),
         Form::Written => write(bytes, start, ",\"instanceLocation\":\""),
     }
 }

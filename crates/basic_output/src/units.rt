@@ -11,7 +11,7 @@ ghost use Rattle.basic_output.specs.Spans.{IsSpan, ascends, last_end, order_of, 
 use crate::location::Location;
 use crate::memory::is_still_kept;
 use crate::says::Says;
-use crate::unit_text::{Saying, TextBuffer, append_unit};
+use crate::unit_text::{MessageBuffer, TextBuffer, append_unit};
 use std::alloc::{AllocError, Global};
 use std::marker::Model;
 
@@ -57,13 +57,13 @@ pub struct Units {
     // The units in order, each by its place in that one.
     order: Vec<usize>,
     // Whether the order may be another one than their positions tell, as where memory was wanting: then no text is cut off.
-    loose: bool,
+    is_unordered: bool,
     // Where what a unit says is written.
-    saying: Saying,
+    message_buffer: MessageBuffer,
     ghost are_spans: { All (IsSpan (buffer_text text)) spans.items },
     ghost ascend: { ascends 0 spans.items ≡ true },
     ghost within: { All (λ i. i < length spans.items) order.items },
-    ghost told: { loose ≡ false → order.items ≡ order_of spans.items },
+    ghost is_ordered: { is_unordered ≡ false → order.items ≡ order_of spans.items },
 }
 
 /// How many units there are, so that a later one can be put there, or those that come later can be cut off.
@@ -93,8 +93,8 @@ impl Units {
             text: TextBuffer::new(alloc),
             spans: Vec::new(alloc),
             order: Vec::new(alloc),
-            loose: false,
-            saying: Saying::new(alloc),
+            is_unordered: false,
+            message_buffer: MessageBuffer::new(alloc),
         }
     }
 
@@ -135,7 +135,13 @@ impl Units {
         ensures unchanged { OnErr result (unit_texts self.new ≡ unit_texts self.old) }
     {
         let start = self.text.len();
-        append_unit(&mut self.text, &mut self.saying, annotates, location, says)?;
+        append_unit(
+            &mut self.text,
+            &mut self.message_buffer,
+            annotates,
+            location,
+            says,
+        )?;
         let end = self.text.len();
         let position = mark.units.min(self.order.len());
         let span = Span {
@@ -148,7 +154,7 @@ impl Units {
         match put(&mut self.order, position, place) {
             Ok(()) => Ok(()),
             Err(error) => {
-                self.loose = true;
+                self.is_unordered = true;
                 Err(error)
             }
         }
@@ -168,8 +174,8 @@ impl Units {
         ensures { unit_texts self.new ≡ take units (unit_texts self.old) }
     {
         self.order.truncate(units);
-        if self.loose || !are_put_behind(self.spans.as_slice(), units) {
-            self.loose = true;
+        if self.is_unordered || !are_put_behind(self.spans.as_slice(), units) {
+            self.is_unordered = true;
             return;
         }
         self.spans.truncate(units);
@@ -181,10 +187,10 @@ impl Units {
     pub fn clear(&mut self)
         ensures { unit_texts self.new ≡ [] }
     {
-        if is_still_kept(self.text.bytes.len(), self.text.len()) && self.saying.is_kept() {
+        if is_still_kept(self.text.bytes.len(), self.text.len()) && self.message_buffer.is_kept() {
             self.spans.clear();
             self.order.clear();
-            self.loose = false;
+            self.is_unordered = false;
             self.text.truncate(0);
         } else {
             *self = Units::new(*self.spans.allocator());

@@ -8,13 +8,13 @@ use Rattle.definitions.specs.Outcomes.{uses_by_keyword, use_of}
 use Rattle.linker.specs.declared.linked.Linked.{Linked}
 use Rattle.keywords.specs.Rows.{row_of}
 use Rattle.keyword_plans.specs.Applications.{named_count}
-use Rattle.keyword_plans.specs.Sites.{linked_rules}
+use Rattle.keyword_plans.specs.ObjectApplications.{linked_rules}
 use Rattle.keywords.specs.declared.keyword.Keyword.{Keyword}
 use Rattle.keyword_plans.specs.Plans.{is_consequence, counts_contained}
 use Rattle.evaluator.specs.Groups.{stands_alone}
 use Rattle.evaluator.specs.Notes.{Notes}
 use Rattle.evaluator.specs.Rounds.{Knows, group_uses, linked_outcome, uses_since, names_since, indexes_since}
-use Rattle.evaluator.specs.declared.beside.Beside.{Beside}
+use Rattle.evaluator.specs.declared.siblings.Siblings.{Siblings}
 use Rattle.keywords.specs.declared.group.Group.TheVariants.{One}
 use Rattle.evaluator.specs.declared.log.Before.{Before}
 
@@ -79,16 +79,16 @@ third_not false false false h = refl
 never_both : (b : Bool) → b ≡ false → b ≡ true → false ≡ true
 never_both b e f = sym e ∙ f
 
-pub alone_knows : (l : Linked) (left : ℕ) (a : Application) (k : Keyword) (named : ℕ) (beside : Beside) → stands_alone (One k) ≡ true
-    → beside ≡ record { condition = None; containing = None; named = named } → named ≤ named_count a → Knows l left a (row_of k).meaning beside
-alone_knows l left a k named beside alone is most =
+pub alone_knows : (l : Linked) (left : ℕ) (a : Application) (k : Keyword) (named : ℕ) (siblings : Siblings) → stands_alone (One k) ≡ true
+    → siblings ≡ record { condition = None; containing = None; named = named } → named ≤ named_count a → Knows l left a (row_of k).meaning siblings
+alone_knows l left a k named siblings alone is most =
     let m = (row_of k).meaning in
     record {
       condition =
           λ t. absurd (let e = never_both (is_consequence m) (first_not (is_consequence m) (counts_contained m) (looks_at_evaluated m) alone) t in cc);
       containing =
           λ t. absurd (let e = never_both (counts_contained m) (second_not (is_consequence m) (counts_contained m) (looks_at_evaluated m) alone) t in cc);
-      named = λ t. subst (λ (b : Beside). b.named ≤ named_count a) (sym is) most;
+      named = λ t. subst (λ (b : Siblings). b.named ≤ named_count a) (sym is) most;
     }
 
 pub alone_uses : (l : Linked) (left : ℕ) (a : Application) (k : Keyword) (before : Before) (n : Notes) → stands_alone (One k) ≡ true

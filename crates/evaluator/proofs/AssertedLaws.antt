@@ -14,7 +14,7 @@ use Rattle.linker.specs.declared.linked.Linked.{Linked}
 use Rattle.keywords.specs.Rows.{row_of}
 use Rattle.keywords.specs.declared.keyword.Keyword.{Keyword}
 use Rattle.keywords.specs.declared.group.Group.TheVariants.{One}
-use Rattle.keyword_plans.specs.Sites.{linked_rules}
+use Rattle.keyword_plans.specs.ObjectApplications.{linked_rules}
 use Rattle.evaluator.specs.Notes.{error_texts, no_notes, uses_notes}
 use Rattle.evaluator.specs.Rounds.{group_uses, linked_outcome}
 use Rattle.evaluator.proofs.LogLaws.{same_notes}

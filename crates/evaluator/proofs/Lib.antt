@@ -5,7 +5,7 @@ pub mod PlannedLaws
 pub mod UseLaws
 pub mod TurnLaws
 pub mod AloneLaws
-pub mod BesideLaws
+pub mod SiblingLaws
 pub mod ReportLaws
 pub mod ObjectLaws
 pub mod UnevaluatedLaws

@@ -31,8 +31,8 @@ first_met : (x : Value) (b : Bool) (m : Text × Value) (ms : List (Text × Value
     → is_member_met x m ≡ true → (entry (row_of k).name ms ≡ Some v → holds y v x ≡ true) → holds y v x ≡ true
 first_met x true m ms k y v same asserts found met later =
     let row : row_named m.0 ≡ Some (row_of k) = ap row_named (sym (same_text_is (row_of k).name m.0 same)) ∙ sym (row_there k) in
-    let made : assertion_of_row (row_named m.0) ≡ Some y = ap assertion_of_row row ∙ sym asserts in
-    ap (λ w. holds y w x) (sym (same_Some _ _ found)) ∙ sym (ap (λ o. unwrap_or (option_map (λ z. holds z m.1 x) o) true) made) ∙ met
+    let noted_report : assertion_of_row (row_named m.0) ≡ Some y = ap assertion_of_row row ∙ sym asserts in
+    ap (λ w. holds y w x) (sym (same_Some _ _ found)) ∙ sym (ap (λ o. unwrap_or (option_map (λ z. holds z m.1 x) o) true) noted_report) ∙ met
 first_met x false m ms k y v same asserts found met later = later found
 
 pub member_holds : (x : Value) (ms : List (Text × Value)) (k : Keyword) (y : meaning.Assertion) (v : Value) → Some y ≡ assertion_in (row_of k).meaning
@@ -46,14 +46,14 @@ member_holds x (m ∷ ms) k y v asserts found all =
 pub made_met : (x v : Value) (name : Text) (k : Keyword) (o : Option Keyword) (y : meaning.Assertion) → o ≡ Some k → option_map row_of o ≡ row_named name
     → Some y ≡ assertion_in (row_of k).meaning → holds y v x ≡ true → is_member_met x (name, v) ≡ true
 made_met x v name k o y is named asserts met =
-    let made : assertion_of_row (row_named name) ≡ Some y = ap assertion_of_row (sym named ∙ ap (option_map row_of) is) ∙ sym asserts in
-    ap (λ z. unwrap_or (option_map (λ w. holds w v x) z) true) made ∙ met
+    let noted_report : assertion_of_row (row_named name) ≡ Some y = ap assertion_of_row (sym named ∙ ap (option_map row_of) is) ∙ sym asserts in
+    ap (λ z. unwrap_or (option_map (λ w. holds w v x) z) true) noted_report ∙ met
 
 pub none_made_met : (x v : Value) (name : Text) (k : Keyword) (o : Option Keyword) → o ≡ Some k → option_map row_of o ≡ row_named name
     → None ≡ assertion_in (row_of k).meaning → is_member_met x (name, v) ≡ true
 none_made_met x v name k o is named none =
-    let made : assertion_of_row (row_named name) ≡ None = ap assertion_of_row (sym named ∙ ap (option_map row_of) is) ∙ sym none in
-    ap (λ z. unwrap_or (option_map (λ w. holds w v x) z) true) made
+    let noted_report : assertion_of_row (row_named name) ≡ None = ap assertion_of_row (sym named ∙ ap (option_map row_of) is) ∙ sym none in
+    ap (λ z. unwrap_or (option_map (λ w. holds w v x) z) true) noted_report
 
 -- ---- members all of which are met and apply nothing
 pub alone_met : (x : Value) (ms : List (Text × Value)) → list_all (is_met_alone x) ms ≡ true → list_all (is_member_met x) ms ≡ true

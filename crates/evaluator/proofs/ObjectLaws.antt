@@ -14,7 +14,7 @@ use Rattle.definitions.specs.Applied.{Application, Outcome, Rules, application_w
 use Rattle.definitions.specs.Outcomes.{Use, object_outcome, outcome_of_uses, use_annotations, use_errors, uses_by_keyword, uses_of}
 use Rattle.linker.specs.declared.linked.Linked.{Linked}
 use Rattle.keywords.specs.Rows.{row_of}
-use Rattle.keyword_plans.specs.Sites.{linked_rules}
+use Rattle.keyword_plans.specs.ObjectApplications.{linked_rules}
 use Rattle.keywords.specs.declared.keyword.Keyword.TheVariants.{UnevaluatedItems, UnevaluatedProperties}
 use Rattle.evaluator.specs.Tallies.{uses_tally}
 use Rattle.evaluator.specs.Groups.{first_groups, rows_of}

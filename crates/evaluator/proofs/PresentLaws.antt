@@ -21,7 +21,7 @@ use Rattle.keywords.specs.Rows.{row_named, row_of}
 use Rattle.keywords.specs.Groups.{group_number, groups_before, in_order}
 use Rattle.keywords.proofs.Grouped.{number_within}
 use Rattle.keywords.specs.declared.keyword.Keyword as listed
-use Rattle.keyword_plans.specs.Sites.{linked_rules}
+use Rattle.keyword_plans.specs.ObjectApplications.{linked_rules}
 use Rattle.keywords.specs.declared.keyword.Keyword.TheVariants.{ContentSchema, Ref, UnevaluatedItems, UnevaluatedProperties}
 use Rattle.evaluator.specs.Groups.{first_groups, rows_of}
 use Rattle.evaluator.specs.Presents.{has_mark, mark_of, may_annotate_itself}

@@ -24,7 +24,7 @@ use Rattle.basic_output.specs.Units.{unit_texts}
 use Rattle.output_texts.specs.declared.output.Output.{Output}
 use Rattle.linker.specs.LinkedDocuments.{linked_documents, linked_schemas, linked_uri}
 use Rattle.linker.specs.declared.linked.Linked.{Linked}
-use Rattle.keyword_plans.specs.Sites.{linked_rules}
+use Rattle.keyword_plans.specs.ObjectApplications.{linked_rules}
 use Rattle.evaluation_context.specs.Frames.{Frame, frame_standing}
 use Rattle.evaluation_context.specs.Standings.{application_at}
 use Rattle.evaluator.specs.Logs.{log_view}

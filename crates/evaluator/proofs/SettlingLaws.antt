@@ -21,7 +21,7 @@ use Rattle.keyword_plans.specs.LinkedResources.{HasResources}
 use Rattle.applicators.specs.Plans.{planned_view}
 use Rattle.keywords.specs.Rows.{row_of}
 use Rattle.keywords.proofs.Grouped.{row_in}
-use Rattle.keyword_plans.specs.Sites.{linked_rules}
+use Rattle.keyword_plans.specs.ObjectApplications.{linked_rules}
 use Rattle.keywords.specs.declared.keyword.Keyword.{Keyword}
 use Rattle.keywords.specs.declared.keyword.Keyword.TheVariants.{PatternProperties}
 use Rattle.applicators.specs.declared.planned.Planned.{Planned}
@@ -31,7 +31,7 @@ use Rattle.evaluator.specs.Applying.{IsPlan}
 use Rattle.evaluator.specs.Findings.{FindsAll, passing_first}
 use Rattle.evaluator.specs.Tallies.{Tally, parts_tally, uses_tally}
 use Rattle.evaluator.specs.declared.applied.Applied.{Applied}
-use Rattle.evaluator.specs.declared.beside.Beside.{Beside}
+use Rattle.evaluator.specs.declared.siblings.Siblings.{Siblings}
 use Rattle.evaluator.specs.Notes.{IsOver, Notes, annotation_texts, error_texts, parts_notes, uses_notes, visible_notes}
 use Rattle.evaluator.specs.Rounds.{IsAt, IsAtKeyword, IsKnown, IsUnder, Knows, linked_outcome, part_outcomes, use_there}
 use Rattle.evaluator.proofs.LogLaws.{mapped_all, same_notes, same_tallies}
@@ -144,10 +144,10 @@ pub use_over : (a : Application) (n : Notes) (m : Meaning) (u : Use) → IsOver 
 use_over a n m u h = let c : (parts_tally u.outcomes).count ≡ (uses_tally (u ∷ [])).count = ap (λ (t : Tally). t.count) (tally_of_one u) in omega (arith, h, c)
 
 -- ---- at the keyword
-pub at_keyword_of : (l : Linked) (left : ℕ) (f g : Frame) (s x : Value) (keyword : Keyword) (v : Value) (beside : Beside) (a : Application)
-    → IsAt l f s x a → frame_standing g ≡ at_keyword (row_of keyword).name (frame_standing f) → Knows l left a (row_of keyword).meaning beside
-    → get (row_of keyword).name a.schema.value ≡ Some v → IsAtKeyword l left g s x keyword v beside a
-at_keyword_of l left f g s x keyword v beside a at e knows valued = record {
+pub at_keyword_of : (l : Linked) (left : ℕ) (f g : Frame) (s x : Value) (keyword : Keyword) (v : Value) (siblings : Siblings) (a : Application)
+    → IsAt l f s x a → frame_standing g ≡ at_keyword (row_of keyword).name (frame_standing f) → Knows l left a (row_of keyword).meaning siblings
+    → get (row_of keyword).name a.schema.value ≡ Some v → IsAtKeyword l left g s x keyword v siblings a
+at_keyword_of l left f g s x keyword v siblings a at e knows valued = record {
   under = e ∙ ap (at_keyword (row_of keyword).name) (sym (ap standing_of at.there));
   schema = ap (λ (b : Application). b.schema.value) at.there;
   instance = ap (λ (b : Application). b.instance) at.there;

@@ -15,7 +15,7 @@ use Rattle.json_doc.specs.Docs.{value}
 use Rattle.json_doc.specs.Kinds.{as_boolean}
 use Rattle.linker.specs.declared.linked.Linked.{Linked}
 use Rattle.applicators.specs.Plans.{part_view, planned_view, way_application}
-use Rattle.keyword_plans.specs.Sites.{linked_rules}
+use Rattle.keyword_plans.specs.ObjectApplications.{linked_rules}
 use Rattle.applicators.specs.Subjects.{subject_value}
 use Rattle.applicators.specs.declared.planned.Planned.{Planned}
 use Rattle.applicators.specs.declared.planned.Way.{Way}

@@ -13,7 +13,7 @@ use Rattle.keywords.specs.declared.keyword.Keyword.TheVariants.{UnevaluatedItems
 use Rattle.evaluator.specs.Findings.{Outcomes}
 use Rattle.evaluator.specs.Notes.{Notes, notes_of_both, uses_notes}
 use Rattle.evaluator.specs.Rounds.{Knows, evaluated_in, indexes_since, keyword_uses, linked_outcome, names_since, two_uses, unevaluated_uses, uses_since, uses_with}
-use Rattle.evaluator.specs.declared.beside.Beside.{Beside}
+use Rattle.evaluator.specs.declared.siblings.Siblings.{Siblings}
 use Rattle.evaluator.specs.declared.log.Before.{Before}
 use Rattle.evaluator.proofs.LogLaws.{rest_list}
 
@@ -94,8 +94,8 @@ both_after l left a before older gs e =
     ∙ ap (λ ws. ws ++ (keyword_uses l left a UnevaluatedProperties ns is ++ [])) first
 
 -- ---- they ask for nothing that keywords beside say
-pub items_know : (l : Linked) (left : ℕ) (a : Application) (beside : Beside) → Knows l left a (row_of UnevaluatedItems).meaning beside
-items_know l left a beside = record { condition = λ is. absurd (cc); containing = λ is. absurd (cc); named = λ is. absurd (cc) }
+pub items_know : (l : Linked) (left : ℕ) (a : Application) (siblings : Siblings) → Knows l left a (row_of UnevaluatedItems).meaning siblings
+items_know l left a siblings = record { condition = λ is. absurd (cc); containing = λ is. absurd (cc); named = λ is. absurd (cc) }
 
-pub properties_know : (l : Linked) (left : ℕ) (a : Application) (beside : Beside) → Knows l left a (row_of UnevaluatedProperties).meaning beside
-properties_know l left a beside = record { condition = λ is. absurd (cc); containing = λ is. absurd (cc); named = λ is. absurd (cc) }
+pub properties_know : (l : Linked) (left : ℕ) (a : Application) (siblings : Siblings) → Knows l left a (row_of UnevaluatedProperties).meaning siblings
+properties_know l left a siblings = record { condition = λ is. absurd (cc); containing = λ is. absurd (cc); named = λ is. absurd (cc) }

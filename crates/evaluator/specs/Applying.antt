@@ -9,7 +9,7 @@ use Rattle.faults.specs.declared.Fault as code
 use Rattle.json_doc.specs.Docs.{value}
 use Rattle.json_doc.specs.declared.doc.Doc.{Doc}
 use Rattle.linker.specs.declared.linked.Linked.{Linked}
-use Rattle.keyword_plans.specs.Sites.{linked_rules}
+use Rattle.keyword_plans.specs.ObjectApplications.{linked_rules}
 use Rattle.applicators.specs.Subjects.{subject_value}
 use Rattle.applicators.specs.declared.planned.Planned.{Planned}
 use Rattle.applicators.specs.declared.subject.Subject.{Subject}
@@ -22,10 +22,10 @@ use Rattle.evaluator.specs.Notes.{IsOver, Notes, notes_of_both, outcome_notes, p
 use Rattle.evaluator.specs.Rounds.{IsAt, IsKnown, Knows, indexes_since, linked_outcome, names_since, part_outcomes, two_uses, use_there, uses_since}
 use Rattle.evaluator.specs.declared.applied.Applied.{Applied}
 use Rattle.evaluator.specs.declared.applying.Evaluation.{Evaluation}
-use Rattle.evaluator.specs.declared.beside.Beside.{Beside}
+use Rattle.evaluator.specs.declared.siblings.Siblings.{Siblings}
 use Rattle.evaluator.specs.declared.halt.Halt.{Halt}
 use Rattle.evaluator.specs.declared.halt.Halt.TheVariants.{Costly, NoRoom}
-use Rattle.evaluator.specs.declared.here.Here.{Here}
+use Rattle.evaluator.specs.declared.schema_use.SchemaUse.{SchemaUse}
 
 -- it is this application of the schema to the subject, where the evaluation stands
 abbrev pub Applies : Evaluation → Doc → Subject → Application → Type 0
@@ -36,8 +36,8 @@ abbrev pub AppliesToWhole : Evaluation → Doc → Doc → Application → Type 
 AppliesToWhole e schema instance a = IsAt e.linked.now (context_view e.context) (value schema) (value instance) a
 
 -- it is the application of what is applied here
-abbrev pub IsHere : Evaluation → Here → Application → Type 0
-IsHere e h a = Applies e h.present.now.schema.now h.subject a
+abbrev pub IsApplicationOf : Evaluation → SchemaUse → Application → Type 0
+IsApplicationOf e h a = Applies e h.present.now.schema.now h.subject a
 
 -- the evaluation noted this too
 abbrev pub Adds : Evaluation → Evaluation → Notes → Type 0
@@ -57,8 +57,8 @@ abbrev pub AreKnown : Linked → Text → Application → List Planned → Type 
 AreKnown l k a ps = (p : Planned) → Contains ps p → IsKnown l k a p
 
 -- of a schema object, by the linked documents, where so many applications may nest in it
-abbrev pub object_said : Linked → ℕ → Application → Outcome
-object_said l left a = object_outcome (linked_rules l) (linked_outcome l left) a
+abbrev pub linked_object_outcome : Linked → ℕ → Application → Outcome
+linked_object_outcome l left a = object_outcome (linked_rules l) (linked_outcome l left) a
 
 -- ---- what an evaluation comes to
 -- the linked documents stay, and unless it halts, so does where it stands
@@ -96,22 +96,22 @@ HasParts older newer r meaning os = EndsWith older newer r (λ f. FindsAll f os)
 
 -- ---- a keyword that is used
 -- it has this value in the schema that is applied here, and it is known what the keywords beside said
-pub record IsUsed (e : Evaluation) (h : Here) (keyword : Keyword) (v : Value) (beside : Beside) (left : ℕ) (a : Application) : Type 0 where
-  pub here : IsHere e h a
-  pub knows : Knows e.linked.now left a (row_of keyword).meaning beside
+pub record IsUsed (e : Evaluation) (h : SchemaUse) (keyword : Keyword) (v : Value) (siblings : Siblings) (left : ℕ) (a : Application) : Type 0 where
+  pub schema_use : IsApplicationOf e h a
+  pub knows : Knows e.linked.now left a (row_of keyword).meaning siblings
   pub valued : get (row_of keyword).name a.schema.value ≡ Some v
 
 -- its use, by what was evaluated since the schema object was entered
-abbrev pub use_here : Evaluation → Here → Keyword → Value → ℕ → Application → Use
-use_here e h keyword v left a = use_there e.linked.now left a keyword (names_since h.before (log_view e.log)) (indexes_since h.before (log_view e.log)) v
+abbrev pub use_now : Evaluation → SchemaUse → Keyword → Value → ℕ → Application → Use
+use_now e h keyword v left a = use_there e.linked.now left a keyword (names_since h.before (log_view e.log)) (indexes_since h.before (log_view e.log)) v
 
 -- its uses, where the schema has it
-abbrev pub uses_here : Evaluation → Here → Keyword → ℕ → Application → List Use
-uses_here e h keyword left a = uses_since e.linked.now left a keyword h.before (log_view e.log)
+abbrev pub uses_now : Evaluation → SchemaUse → Keyword → ℕ → Application → List Use
+uses_now e h keyword left a = uses_since e.linked.now left a keyword h.before (log_view e.log)
 
 -- and those of another keyword after it
-abbrev pub two_uses_here : Evaluation → Here → Keyword → Keyword → ℕ → Application → List Use
-two_uses_here e h first second left a = two_uses e.linked.now left a first second h.before (log_view e.log)
+abbrev pub two_uses_now : Evaluation → SchemaUse → Keyword → Keyword → ℕ → Application → List Use
+two_uses_now e h first second left a = two_uses e.linked.now left a first second h.before (log_view e.log)
 
 -- these are the applications of a use of the keyword, and their schemas are all linked
 pub record IsPlan (l : Linked) (left : ℕ) (a : Application) (keyword : Keyword) (u : Use) (ps : List Planned) : Type 0 where

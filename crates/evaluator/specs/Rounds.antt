@@ -13,7 +13,7 @@ use Rattle.keyword_plans.specs.LinkedResources.{HasResources}
 use Rattle.applicators.specs.Plans.{outcomes_of, planned_view}
 use Rattle.keyword_plans.specs.Plans.{counts_contained, is_consequence, takes_others}
 use Rattle.keywords.specs.Rows.{row_of}
-use Rattle.keyword_plans.specs.Sites.{linked_rules}
+use Rattle.keyword_plans.specs.ObjectApplications.{linked_rules}
 use Rattle.keywords.specs.declared.keyword.Keyword.{Keyword}
 use Rattle.keywords.specs.declared.keyword.Keyword.TheVariants.{UnevaluatedItems, UnevaluatedProperties}
 use Rattle.applicators.specs.declared.planned.Planned.{Planned}
@@ -22,7 +22,7 @@ use Rattle.evaluation_context.specs.Standings.{application_at, at_keyword, stand
 use Rattle.evaluator.specs.Findings.{Outcomes}
 use Rattle.evaluator.specs.Groups.{first_groups, rows_of}
 use Rattle.evaluator.specs.Notes.{Notes, notes_of_both, uses_notes}
-use Rattle.evaluator.specs.declared.beside.Beside.{Beside}
+use Rattle.evaluator.specs.declared.siblings.Siblings.{Siblings}
 use Rattle.keywords.specs.declared.group.Group.{Group}
 use Rattle.evaluator.specs.declared.log.Before.{Before}
 
@@ -58,19 +58,19 @@ pub record IsKnown (l : Linked) (k : Text) (a : Application) (p : Planned) : Typ
   pub planned : Contains (linked_schemas l) (planned_view k a p).1.schema
 
 -- ---- what keywords beside said
-pub record Knows (l : Linked) (left : ℕ) (a : Application) (meaning : Meaning) (beside : Beside) : Type 0 where
-  pub condition : is_consequence meaning ≡ true → option_map (λ o. o.valid) (condition_outcome (linked_outcome l left) a) ≡ beside.condition
-  pub containing : counts_contained meaning ≡ true → option_map (count_by (λ o. o.valid)) (contains_outcomes (linked_outcome l left) a) ≡ beside.containing
-  pub named : takes_others meaning ≡ true → beside.named ≤ named_count a
+pub record Knows (l : Linked) (left : ℕ) (a : Application) (meaning : Meaning) (siblings : Siblings) : Type 0 where
+  pub condition : is_consequence meaning ≡ true → option_map (λ o. o.valid) (condition_outcome (linked_outcome l left) a) ≡ siblings.condition
+  pub containing : counts_contained meaning ≡ true → option_map (count_by (λ o. o.valid)) (contains_outcomes (linked_outcome l left) a) ≡ siblings.containing
+  pub named : takes_others meaning ≡ true → siblings.named ≤ named_count a
 
 -- at a keyword with this value, of the schema s that is applied to the instance x
-pub record IsAtKeyword (l : Linked) (left : ℕ) (f : Frame) (s x : Value) (keyword : Keyword) (v : Value) (beside : Beside) (a : Application) : Type 0 where
+pub record IsAtKeyword (l : Linked) (left : ℕ) (f : Frame) (s x : Value) (keyword : Keyword) (v : Value) (siblings : Siblings) (a : Application) : Type 0 where
   pub under : IsUnder f (row_of keyword).name a
   pub schema : a.schema.value ≡ s
   pub instance : a.instance ≡ x
   pub inside : Contains (linked_schemas l) a.schema
   pub scope : HasResources l a.scope
-  pub knows : Knows l left a (row_of keyword).meaning beside
+  pub knows : Knows l left a (row_of keyword).meaning siblings
   pub valued : get (row_of keyword).name a.schema.value ≡ Some v
 
 -- ---- the uses of keywords

@@ -8,10 +8,10 @@ ghost use Rattle.keyword_plans.specs.ScopeViews.{scope_documents};
 ghost use Rattle.keyword_plans.specs.SearchedIn.{searched_in};
 
 use crate::halt::Halt;
-use crate::here::Here;
 use crate::log::Log;
 use crate::memory::EvaluationMemory;
 use crate::present::Present;
+use crate::schema_use::SchemaUse;
 use crate::settling_object::settle_object;
 use applicators::{PlanMemory, Subject};
 use basic_output::Says;
@@ -56,7 +56,7 @@ impl<'a> Evaluation<'a> {
     ghost use Rattle.json_doc.specs.Kinds.{as_boolean};
     ghost use Rattle.evaluation_context.specs.Frames.{context_view, frame_standing};
     ghost use Rattle.evaluation_context.specs.Standings.{application_at};
-    ghost use Rattle.evaluator.specs.Applying.{Adds, Applies, AppliesToWhole, HasOutcome, Stays, object_said};
+    ghost use Rattle.evaluator.specs.Applying.{Adds, Applies, AppliesToWhole, HasOutcome, Stays, linked_object_outcome};
     ghost use Rattle.evaluator.specs.Notes.{outcome_notes};
     ghost use Rattle.evaluator.specs.Rounds.{boolean_at, linked_outcome, root_outcome};
 
@@ -105,7 +105,7 @@ impl<'a> Evaluation<'a> {
     #[inline(always)]
     pub(crate) fn apply_root(&mut self, schema: &'a Doc, instance: &'a Doc) -> Result<bool, Halt>
         ensures stays { Stays self.old self.new result }
-        ensures said { (a : Application) → AppliesToWhole self.old schema.now instance.now a
+        ensures outcome { (a : Application) → AppliesToWhole self.old schema.now instance.now a
             → HasOutcome self.old self.new result (root_outcome self.old.linked.now a) }
     {
         let mut positions = [0; KEYWORDS];
@@ -113,7 +113,7 @@ impl<'a> Evaluation<'a> {
         self.apply(&present, Subject::Value(instance), MOST_NESTED)
     }
 
-    /// Applies a schema to what stands here. Where there were as many applications as there may be, it is Costly.
+    /// Applies a schema to the subject. Where there were as many applications as there may be, it is Costly.
     #[cycle(apply)]
     pub(crate) fn apply(
         &mut self,
@@ -122,7 +122,8 @@ impl<'a> Evaluation<'a> {
         nesting: u32,
     ) -> Result<bool, Halt>
         ensures stays { Stays self.old self.new result }
-        ensures said { (a : Application) → Applies self.old present.now.schema.now subject.entry a
+        ensures outcome { (a : Application)
+            → Applies self.old present.now.schema.now subject.entry a
             → HasOutcome self.old self.new result (linked_outcome self.old.linked.now nesting a) }
     {
         if self.log.is_full() {
@@ -182,7 +183,8 @@ impl<'a> Evaluation<'a> {
         requires room { self.old.log.count < limits.applications }
         requires other { as_boolean (value present.now.schema.now) ≡ None }
         ensures stays { Stays self.old self.new result }
-        ensures said { (a : Application) → Applies self.old present.now.schema.now subject.entry a
+        ensures outcome { (a : Application)
+            → Applies self.old present.now.schema.now subject.entry a
             → HasOutcome self.old self.new result (linked_outcome self.old.linked.now nesting a) }
     {
         if self.is_looping(present.schema) {
@@ -215,8 +217,10 @@ impl<'a> Evaluation<'a> {
     ) -> Result<bool, Halt>
         requires room { self.old.log.count < limits.applications }
         ensures stays { Stays self.old self.new result }
-        ensures said { (a : Application) → Applies self.old present.now.schema.now subject.entry a
-            → HasOutcome self.old self.new result (object_said self.old.linked.now nesting a) }
+        ensures outcome { (a : Application)
+            → Applies self.old present.now.schema.now subject.entry a
+            → HasOutcome self.old self.new result
+            (linked_object_outcome self.old.linked.now nesting a) }
     {
         if present.applies_nothing() {
             return self.apply_leaf(present, subject);
@@ -224,12 +228,12 @@ impl<'a> Evaluation<'a> {
         self.log.count_one();
         let mark = self.log.mark();
         self.context.enter_object()?;
-        let here = Here {
+        let schema_use = SchemaUse {
             present: &*present,
             subject,
             before: mark.before(),
         };
-        match self.use_keywords(&here, nesting) {
+        match self.use_keywords(&schema_use, nesting) {
             Ok(valid) => {
                 self.context.leave_object();
                 settle_object(

@@ -5,7 +5,7 @@ ghost use Rattle.json_doc.specs.Docs.{value};
 
 use crate::applying::Evaluation;
 use crate::halt::Halt;
-use crate::here::Here;
+use crate::schema_use::SchemaUse;
 use assertions::Assertion;
 use basic_output::Says;
 use json_doc::Doc;
@@ -24,7 +24,7 @@ impl<'a> Evaluation<'a> {
     ghost use Rattle.keywords.specs.declared.group.Group.TheVariants.{One};
     ghost use Rattle.evaluation_context.specs.Frames.{context_view, frame_standing};
     ghost use Rattle.evaluation_context.specs.Standings.{standing_of};
-    ghost use Rattle.evaluator.specs.Applying.{Adds, HasUses, IsHere, IsUntouched, Stays};
+    ghost use Rattle.evaluator.specs.Applying.{Adds, HasUses, IsApplicationOf, IsUntouched, Stays};
     ghost use Rattle.evaluator.specs.Notes.{error_texts, no_notes};
     ghost use Rattle.evaluator.specs.Rounds.{group_uses};
 
@@ -34,19 +34,19 @@ impl<'a> Evaluation<'a> {
         &mut self,
         keyword: Keyword,
         assertion: Assertion,
-        here: &Here<'_, 'a>,
+        schema_use: &SchemaUse<'_, 'a>,
     ) -> Result<bool, Halt>
         requires asserts { Some (assertion_view assertion)
             ≡ assertion_in (row_of keyword).meaning }
         ensures stays { Stays self.old self.new result }
-        ensures said { (a : Application) (left : ℕ) → IsHere self.old here.now a
+        ensures outcome { (a : Application) (left : ℕ) → IsApplicationOf self.old schema_use.now a
             → HasUses self.old self.new result a
             (group_uses self.old.linked.now left a (One keyword)) }
         ensures err { IfErr result (λ h. h ≡ Halt.NoRoom) }
     {
-        match here.present.value(keyword) {
+        match schema_use.present.value(keyword) {
             Some(keyword_value) => {
-                let met = self.is_met(keyword, assertion, keyword_value, here)?;
+                let met = self.is_met(keyword, assertion, keyword_value, schema_use)?;
                 if met { Ok(true) } else { self.refuse(keyword) }
             }
             None => Ok(true),
@@ -61,30 +61,34 @@ impl<'a> Evaluation<'a> {
         keyword: Keyword,
         assertion: Assertion,
         keyword_value: &Doc,
-        here: &Here<'_, 'a>,
+        schema_use: &SchemaUse<'_, 'a>,
     ) -> Result<bool, AllocError>
         requires asserts { Some (assertion_view assertion)
             ≡ assertion_in (row_of keyword).meaning }
         ensures same { IsUntouched self.old self.new }
-        ensures met { (a : Application) → IsHere self.old here.now a
+        ensures met { (a : Application) → IsApplicationOf self.old schema_use.now a
             → get (row_of keyword).name a.schema.value ≡ Some (value keyword_value.now)
             → IfOk result (λ b. b
             ≡ holds (assertion_view assertion) (value keyword_value.now) a.instance) }
     {
         match keyword {
             Keyword::Enum if !self.enumerations.may_walk(keyword_value) => {
-                self.is_one_of(keyword_value, here)
+                self.is_one_of(keyword_value, schema_use)
             }
-            _ => Ok(holds_of(self.alloc, assertion, keyword_value, here.subject)?),
+            _ => Ok(holds_of(self.alloc, assertion, keyword_value, schema_use.subject)?),
         }
     }
 
     // Whether the instance is one of the values of the schema's `enum`, by what the evaluation has sorted. The only error is
     // want of memory. It is called apart, since few assertions get so far.
     #[inline(never)]
-    fn is_one_of(&mut self, values: &Doc, here: &Here<'_, 'a>) -> Result<bool, AllocError>
+    fn is_one_of(
+        &mut self,
+        values: &Doc,
+        schema_use: &SchemaUse<'_, 'a>,
+    ) -> Result<bool, AllocError>
         ensures same { IsUntouched self.old self.new }
-        ensures met { (a : Application) → IsHere self.old here.now a
+        ensures met { (a : Application) → IsApplicationOf self.old schema_use.now a
             → get (codes "enum") a.schema.value ≡ Some (value values.now)
             → IfOk result (λ b. b ≡ holds enum_of (value values.now) a.instance) }
     {
@@ -94,7 +98,7 @@ impl<'a> Evaluation<'a> {
             self.context.resource(),
             &pointer,
             values,
-            here.subject,
+            schema_use.subject,
         )
     }
 

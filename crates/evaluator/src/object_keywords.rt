@@ -3,10 +3,10 @@
 ghost use Rattle.std.specs.Prelude.{◌≡◌};
 
 use crate::applying::Evaluation;
-use crate::beside::Beside;
 use crate::groups::first_groups;
 use crate::halt::Halt;
-use crate::here::Here;
+use crate::schema_use::SchemaUse;
+use crate::siblings::Siblings;
 use assertions::Assertion;
 use keywords::{Group, Keyword};
 
@@ -14,7 +14,7 @@ impl<'a> Evaluation<'a> {
     ghost use Rattle.std.specs.Prelude.{◌≤◌, ℕ, true, IfSome, OnOk};
     ghost use Rattle.definitions.specs.Applied.{Application};
     ghost use Rattle.keywords.specs.Rows.{row_of};
-    ghost use Rattle.evaluator.specs.Applying.{HasUses, IsHere, Stays, two_uses_here, uses_here};
+    ghost use Rattle.evaluator.specs.Applying.{HasUses, IsApplicationOf, Stays, two_uses_now, uses_now};
     ghost use Rattle.evaluator.specs.Findings.{passing_first};
     ghost use Rattle.evaluator.specs.Groups.{first_groups, stands_alone};
     ghost use Rattle.keywords.specs.declared.group.Group.TheVariants.{One, Conditional, Counted};
@@ -25,22 +25,26 @@ impl<'a> Evaluation<'a> {
 
     /// All keywords of a schema object, and last those that look at what the others evaluated: whether all pass.
     #[cycle(apply)]
-    pub(crate) fn use_keywords(&mut self, here: &Here<'_, 'a>, nesting: u32) -> Result<bool, Halt>
-        requires before { here.now.before ≡ evaluated_in (log_view self.old.log) }
+    pub(crate) fn use_keywords(
+        &mut self,
+        schema_use: &SchemaUse<'_, 'a>,
+        nesting: u32,
+    ) -> Result<bool, Halt>
+        requires before { schema_use.now.before ≡ evaluated_in (log_view self.old.log) }
         ensures stays { Stays self.old self.new result }
-        ensures said { (a : Application) → IsHere self.old here.now a
+        ensures outcome { (a : Application) → IsApplicationOf self.old schema_use.now a
             → HasUses self.old self.new result a (object_uses self.old.linked.now nesting a) }
     {
-        match self.use_groups(here, nesting) {
+        match self.use_groups(schema_use, nesting) {
             Ok(valid) => {
-                if !here.present.looks_at_evaluated() {
+                if !schema_use.present.looks_at_evaluated() {
                     return Ok(valid);
                 }
                 match self.use_two(
                     Keyword::UnevaluatedItems,
                     Keyword::UnevaluatedProperties,
-                    here,
-                    Beside::nothing(),
+                    schema_use,
+                    Siblings::nothing(),
                     nesting,
                 ) {
                     Ok(last) => Ok(valid & last),
@@ -53,23 +57,23 @@ impl<'a> Evaluation<'a> {
 
     /// The groups of keywords that the schema may have, in order: whether all pass.
     #[cycle(apply)]
-    fn use_groups(&mut self, here: &Here<'_, 'a>, nesting: u32) -> Result<bool, Halt>
+    fn use_groups(&mut self, schema_use: &SchemaUse<'_, 'a>, nesting: u32) -> Result<bool, Halt>
         ensures stays { Stays self.old self.new result }
-        ensures said { (a : Application) → IsHere self.old here.now a
+        ensures outcome { (a : Application) → IsApplicationOf self.old schema_use.now a
             → HasUses self.old self.new result a
             (groups_uses self.old.linked.now nesting a first_groups) }
     {
         let groups = first_groups();
         let mut valid = true;
         let mut named = 0;
-        let mut next = here.present.first_mark(0);
+        let mut next = schema_use.present.first_mark(0);
         while next < groups.len() {
-            match self.use_group(groups[next], here, named, nesting) {
+            match self.use_group(groups[next], schema_use, named, nesting) {
                 Ok(passes) => valid &= passes,
                 Err(fault) => return Err(fault),
             }
             named = self.named_after(groups[next], named);
-            next = here.present.first_mark(next + 1);
+            next = schema_use.present.first_mark(next + 1);
         }
         Ok(valid)
     }
@@ -90,65 +94,78 @@ impl<'a> Evaluation<'a> {
     fn use_group(
         &mut self,
         group: Group,
-        here: &Here<'_, 'a>,
+        schema_use: &SchemaUse<'_, 'a>,
         named: u64,
         nesting: u32,
     ) -> Result<bool, Halt>
         requires alone { stands_alone group ≡ true }
         ensures stays { Stays self.old self.new result }
-        ensures said { (a : Application) → IsHere self.old here.now a → named ≤ named_count a
+        ensures outcome { (a : Application) → IsApplicationOf self.old schema_use.now a
+            → named ≤ named_count a
             → HasUses self.old self.new result a (group_uses self.old.linked.now nesting a group) }
-        ensures passing { (a : Application) → IsHere self.old here.now a → named ≤ named_count a
+        ensures passing { (a : Application) → IsApplicationOf self.old schema_use.now a
+            → named ≤ named_count a
             → group ≡ One Properties
             → OnOk result (self.new.passing
             ≡ passing_first (group_uses self.old.linked.now nesting a group)) }
     {
         match group {
-            Group::One(keyword) => self.use_one(keyword, here, named, nesting),
-            Group::Conditional => self.use_conditional(here, nesting),
-            Group::Counted => self.use_counted(here, nesting),
+            Group::One(keyword) => self.use_one(keyword, schema_use, named, nesting),
+            Group::Conditional => self.use_conditional(schema_use, nesting),
+            Group::Counted => self.use_counted(schema_use, nesting),
             Group::Empty => Ok(true),
         }
     }
 
-    /// A keyword that asks for nothing that keywords beside say, but for how many members of the instance `properties` names at
+    /// A keyword that asks its siblings for nothing, but for how many members of the instance `properties` names at
     /// least.
     #[cycle(apply)]
     fn use_one(
         &mut self,
         keyword: Keyword,
-        here: &Here<'_, 'a>,
+        schema_use: &SchemaUse<'_, 'a>,
         named: u64,
         nesting: u32,
     ) -> Result<bool, Halt>
         requires alone { stands_alone (One keyword) ≡ true }
         ensures stays { Stays self.old self.new result }
-        ensures said { (a : Application) → IsHere self.old here.now a → named ≤ named_count a
+        ensures outcome { (a : Application) → IsApplicationOf self.old schema_use.now a
+            → named ≤ named_count a
             → HasUses self.old self.new result a
             (group_uses self.old.linked.now nesting a (One keyword)) }
-        ensures passing { (a : Application) → IsHere self.old here.now a → named ≤ named_count a
+        ensures passing { (a : Application) → IsApplicationOf self.old schema_use.now a
+            → named ≤ named_count a
             → keyword ≡ Properties
             → OnOk result (self.new.passing
             ≡ passing_first (group_uses self.old.linked.now nesting a (One keyword))) }
     {
         match Assertion::of(keyword) {
-            Some(assertion) => self.use_assertion(keyword, assertion, here),
-            None => self.use_named(keyword, here, Beside::after_properties(named), nesting),
+            Some(assertion) => self.use_assertion(keyword, assertion, schema_use),
+            None => self.use_named(
+                keyword,
+                schema_use,
+                Siblings::after_properties(named),
+                nesting,
+            ),
         }
     }
 
     /// `if`, and then `then` and `else` (Core, 10.2.2).
     #[cycle(apply)]
-    fn use_conditional(&mut self, here: &Here<'_, 'a>, nesting: u32) -> Result<bool, Halt>
+    fn use_conditional(
+        &mut self,
+        schema_use: &SchemaUse<'_, 'a>,
+        nesting: u32,
+    ) -> Result<bool, Halt>
         ensures stays { Stays self.old self.new result }
-        ensures said { (a : Application) → IsHere self.old here.now a
+        ensures outcome { (a : Application) → IsApplicationOf self.old schema_use.now a
             → HasUses self.old self.new result a
             (group_uses self.old.linked.now nesting a Conditional) }
     {
-        match self.use_named(Keyword::If, here, Beside::nothing(), nesting) {
+        match self.use_named(Keyword::If, schema_use, Siblings::nothing(), nesting) {
             Ok(valid) => {
-                let beside = Beside::after_if(self.passing);
-                match self.use_two(Keyword::Then, Keyword::Else, here, beside, nesting) {
+                let siblings = Siblings::after_if(self.passing);
+                match self.use_two(Keyword::Then, Keyword::Else, schema_use, siblings, nesting) {
                     Ok(others) => Ok(valid & others),
                     Err(fault) => Err(fault),
                 }
@@ -159,20 +176,20 @@ impl<'a> Evaluation<'a> {
 
     /// `contains`, and then `minContains` and `maxContains` (Core, 10.3.1.3; Validation, 6.4.4 and 6.4.5).
     #[cycle(apply)]
-    fn use_counted(&mut self, here: &Here<'_, 'a>, nesting: u32) -> Result<bool, Halt>
+    fn use_counted(&mut self, schema_use: &SchemaUse<'_, 'a>, nesting: u32) -> Result<bool, Halt>
         ensures stays { Stays self.old self.new result }
-        ensures said { (a : Application) → IsHere self.old here.now a
+        ensures outcome { (a : Application) → IsApplicationOf self.old schema_use.now a
             → HasUses self.old self.new result a
             (group_uses self.old.linked.now nesting a Counted) }
     {
-        match self.use_named(Keyword::Contains, here, Beside::nothing(), nesting) {
+        match self.use_named(Keyword::Contains, schema_use, Siblings::nothing(), nesting) {
             Ok(valid) => {
-                let beside = Beside::after_contains(self.passing);
+                let siblings = Siblings::after_contains(self.passing);
                 match self.use_two(
                     Keyword::MinContains,
                     Keyword::MaxContains,
-                    here,
-                    beside,
+                    schema_use,
+                    siblings,
                     nesting,
                 ) {
                     Ok(others) => Ok(valid & others),
@@ -189,19 +206,19 @@ impl<'a> Evaluation<'a> {
         &mut self,
         first: Keyword,
         second: Keyword,
-        here: &Here<'_, 'a>,
-        beside: Beside,
+        schema_use: &SchemaUse<'_, 'a>,
+        siblings: Siblings,
         nesting: u32,
     ) -> Result<bool, Halt>
         ensures stays { Stays self.old self.new result }
-        ensures said { (a : Application) → IsHere self.old here.now a
-            → Knows self.old.linked.now nesting a (row_of first).meaning beside
-            → Knows self.old.linked.now nesting a (row_of second).meaning beside
+        ensures outcome { (a : Application) → IsApplicationOf self.old schema_use.now a
+            → Knows self.old.linked.now nesting a (row_of first).meaning siblings
+            → Knows self.old.linked.now nesting a (row_of second).meaning siblings
             → HasUses self.old self.new result a
-            (two_uses_here self.old here.now first second nesting a) }
+            (two_uses_now self.old schema_use.now first second nesting a) }
     {
-        match self.use_named(first, here, beside, nesting) {
-            Ok(valid) => match self.use_named(second, here, beside, nesting) {
+        match self.use_named(first, schema_use, siblings, nesting) {
+            Ok(valid) => match self.use_named(second, schema_use, siblings, nesting) {
                 Ok(last) => Ok(valid & last),
                 Err(fault) => Err(fault),
             },
@@ -215,22 +232,23 @@ impl<'a> Evaluation<'a> {
     fn use_named(
         &mut self,
         keyword: Keyword,
-        here: &Here<'_, 'a>,
-        beside: Beside,
+        schema_use: &SchemaUse<'_, 'a>,
+        siblings: Siblings,
         nesting: u32,
     ) -> Result<bool, Halt>
         ensures stays { Stays self.old self.new result }
-        ensures said { (a : Application) → IsHere self.old here.now a
-            → Knows self.old.linked.now nesting a (row_of keyword).meaning beside
-            → HasUses self.old self.new result a (uses_here self.old here.now keyword nesting a) }
-        ensures passing { (a : Application) → IsHere self.old here.now a
-            → Knows self.old.linked.now nesting a (row_of keyword).meaning beside
+        ensures outcome { (a : Application) → IsApplicationOf self.old schema_use.now a
+            → Knows self.old.linked.now nesting a (row_of keyword).meaning siblings
+            → HasUses self.old self.new result a
+            (uses_now self.old schema_use.now keyword nesting a) }
+        ensures passing { (a : Application) → IsApplicationOf self.old schema_use.now a
+            → Knows self.old.linked.now nesting a (row_of keyword).meaning siblings
             → OnOk result (self.new.passing
-            ≡ passing_first (uses_here self.old here.now keyword nesting a)) }
+            ≡ passing_first (uses_now self.old schema_use.now keyword nesting a)) }
     {
-        match here.present.value(keyword) {
+        match schema_use.present.value(keyword) {
             Some(keyword_value) => {
-                self.use_keyword(keyword, keyword_value, here, beside, nesting)
+                self.use_keyword(keyword, keyword_value, schema_use, siblings, nesting)
             }
             None => {
                 self.passing = None;

@@ -5,15 +5,15 @@ ghost use Rattle.json_doc.specs.Docs.{value};
 
 use crate::applied::Applied;
 use crate::applying::Evaluation;
-use crate::beside::Beside;
 use crate::halt::Halt;
-use crate::here::Here;
 use crate::log::LogMark;
 use crate::present::Present;
+use crate::schema_use::SchemaUse;
 use crate::settling::{evaluated_for, settle};
+use crate::siblings::Siblings;
 use applicators::Planned;
 use json_doc::Doc;
-use keyword_plans::{Earlier, Site, passes, plan, surely_applies_nothing};
+use keyword_plans::{Earlier, ObjectApplication, passes, plan, surely_applies_nothing};
 use keywords::{KEYWORDS, Keyword};
 use std::alloc::AllocError;
 
@@ -26,7 +26,7 @@ impl<'a> Evaluation<'a> {
     ghost use Rattle.applicators.specs.Subjects.{subject_value};
     ghost use Rattle.evaluation_context.specs.Frames.{Frame, context_view, keyword_frame};
     ghost use Rattle.evaluator.specs.declared.applying.Evaluation.{Evaluation};
-    ghost use Rattle.evaluator.specs.Applying.{Adds, AreKnown, HasOutcome, HasPart, HasParts, HasUses, IsPlan, IsUntouched, IsUsed, Stays, use_here};
+    ghost use Rattle.evaluator.specs.Applying.{Adds, AreKnown, HasOutcome, HasPart, HasParts, HasUses, IsPlan, IsUntouched, IsUsed, Stays, use_now};
     ghost use Rattle.evaluator.specs.Findings.{FindsAll, passing_first};
     ghost use Rattle.evaluator.specs.Logs.{log_view, mark_view};
     ghost use Rattle.evaluator.specs.Notes.{lengths, parts_notes};
@@ -38,27 +38,27 @@ impl<'a> Evaluation<'a> {
         &mut self,
         keyword: Keyword,
         keyword_value: &'a Doc,
-        here: &Here<'_, 'a>,
-        beside: Beside,
+        schema_use: &SchemaUse<'_, 'a>,
+        siblings: Siblings,
         nesting: u32,
     ) -> Result<bool, Halt>
         ensures stays { Stays self.old self.new result }
-        ensures said { (a : Application)
-            → IsUsed self.old here.now keyword (value keyword_value.now) beside nesting a
+        ensures outcome { (a : Application)
+            → IsUsed self.old schema_use.now keyword (value keyword_value.now) siblings nesting a
             → HasUses self.old self.new result a
-            (use_here self.old here.now keyword (value keyword_value.now) nesting a ∷ []) }
+            (use_now self.old schema_use.now keyword (value keyword_value.now) nesting a ∷ []) }
         ensures passing { (a : Application)
-            → IsUsed self.old here.now keyword (value keyword_value.now) beside nesting a
+            → IsUsed self.old schema_use.now keyword (value keyword_value.now) siblings nesting a
             → OnOk result (self.new.passing ≡ passing_first
-            (use_here self.old here.now keyword (value keyword_value.now) nesting a ∷ [])) }
+            (use_now self.old schema_use.now keyword (value keyword_value.now) nesting a ∷ [])) }
     {
         let mark = self.log.mark();
-        let planned = self.plan_keyword(keyword, keyword_value, here, beside)?;
+        let planned = self.plan_keyword(keyword, keyword_value, schema_use, siblings)?;
         self.context.enter_keyword(keyword)?;
         match self.apply_all(keyword, &planned, nesting) {
             Ok(applied) => {
                 self.plans.give_back(planned);
-                self.finish_keyword(keyword, keyword_value, here, beside, &mark, applied)
+                self.finish_keyword(keyword, keyword_value, schema_use, siblings, &mark, applied)
             }
             Err(fault) => Err(fault),
         }
@@ -69,38 +69,38 @@ impl<'a> Evaluation<'a> {
         &mut self,
         keyword: Keyword,
         keyword_value: &'a Doc,
-        here: &Here<'_, 'a>,
-        beside: Beside,
+        schema_use: &SchemaUse<'_, 'a>,
+        siblings: Siblings,
     ) -> Result<Vec<Planned<'a>>, AllocError>
         ensures linked { self.new.linked ≡ self.old.linked }
         ensures back { context_view self.new.context ≡ context_view self.old.context }
         ensures noted { self.new.log ≡ self.old.log }
         ensures planned { (a : Application) (left : ℕ)
-            → IsUsed self.old here.now keyword (value keyword_value.now) beside left a
+            → IsUsed self.old schema_use.now keyword (value keyword_value.now) siblings left a
             → IfOk result (λ ps. IsPlan self.old.linked.now left a keyword
-            (use_here self.old here.now keyword (value keyword_value.now) left a) ps.items) }
+            (use_now self.old schema_use.now keyword (value keyword_value.now) left a) ps.items) }
     {
-        if surely_applies_nothing(keyword, here.subject, beside.named) {
+        if surely_applies_nothing(keyword, schema_use.subject, siblings.named) {
             return Ok(Vec::new(self.alloc));
         }
         let mut planned = self.plans.take();
         let log = &self.log;
         let earlier = Earlier {
-            condition: beside.condition,
-            evaluated: evaluated_for(keyword, &log.names, &log.indexes, here.before),
+            condition: siblings.condition,
+            evaluated: evaluated_for(keyword, &log.names, &log.indexes, schema_use.before),
         };
         let context = &mut self.context;
-        let site = Site {
+        let application = ObjectApplication {
             linked: self.linked,
             resource: context.resource(),
-            schema: here.present.schema,
-            subject: here.subject,
+            schema: schema_use.present.schema,
+            subject: schema_use.subject,
         };
         plan(
             &mut planned,
             &mut context.scope,
             &mut self.searches,
-            site,
+            application,
             keyword,
             keyword_value,
             earlier,
@@ -114,8 +114,8 @@ impl<'a> Evaluation<'a> {
         &mut self,
         keyword: Keyword,
         keyword_value: &'a Doc,
-        here: &Here<'_, 'a>,
-        beside: Beside,
+        schema_use: &SchemaUse<'_, 'a>,
+        siblings: Siblings,
         mark: &LogMark,
         applied: Applied,
     ) -> Result<bool, Halt>
@@ -123,11 +123,12 @@ impl<'a> Evaluation<'a> {
         ensures back { (older : Frame)
             → context_view self.old.context ≡ keyword_frame (row_of keyword).name older
             → OnOk result (context_view self.new.context ≡ older) }
-        ensures said { (a : Application) (left : ℕ) (names : List Text) (indexes : List ℕ)
+        ensures outcome { (a : Application) (left : ℕ) (names : List Text) (indexes : List ℕ)
             (before : Evaluation)
             → IsAtKeyword self.old.linked.now left (context_view self.old.context)
-            (value here.now.present.now.schema.now) (subject_value here.now.subject) keyword
-            (value keyword_value.now) beside a
+            (value schema_use.now.present.now.schema.now)
+            (subject_value schema_use.now.subject) keyword
+            (value keyword_value.now) siblings a
             → let u = use_there self.old.linked.now left a keyword names indexes
             (value keyword_value.now) in
             FindsAll applied u.outcomes → mark_view mark.now ≡ lengths (log_view before.log)
@@ -136,12 +137,12 @@ impl<'a> Evaluation<'a> {
         ensures passing { OnOk result (self.new.passing ≡ Some applied.passing) }
         ensures err { IfErr result (λ h. h ≡ Halt.NoRoom) }
     {
-        let passes = self.passes(keyword, keyword_value, here, beside, applied)?;
+        let passes = self.passes(keyword, keyword_value, schema_use, siblings, applied)?;
         settle(
             &mut self.context,
             &mut self.log,
             keyword,
-            here.subject,
+            schema_use.subject,
             mark,
             applied.number,
             passes,
@@ -156,34 +157,35 @@ impl<'a> Evaluation<'a> {
         &mut self,
         keyword: Keyword,
         keyword_value: &'a Doc,
-        here: &Here<'_, 'a>,
-        beside: Beside,
+        schema_use: &SchemaUse<'_, 'a>,
+        siblings: Siblings,
         applied: Applied,
     ) -> Result<bool, AllocError>
         ensures same { IsUntouched self.old self.new }
         ensures passes { (a : Application) (left : ℕ) (names : List Text) (indexes : List ℕ)
             → IsAtKeyword self.old.linked.now left (context_view self.old.context)
-            (value here.now.present.now.schema.now) (subject_value here.now.subject) keyword
-            (value keyword_value.now) beside a
+            (value schema_use.now.present.now.schema.now)
+            (subject_value schema_use.now.subject) keyword
+            (value keyword_value.now) siblings a
             → let u = use_there self.old.linked.now left a keyword names indexes
             (value keyword_value.now) in
             applied.number ≡ length u.outcomes → applied.passing ≡ pass_count u.outcomes
             → IfOk result (λ b. b ≡ u.passes) }
     {
-        let site = Site {
+        let application = ObjectApplication {
             linked: self.linked,
             resource: self.context.resource(),
-            schema: here.present.schema,
-            subject: here.subject,
+            schema: schema_use.present.schema,
+            subject: schema_use.subject,
         };
         passes(
             &mut self.searches,
-            site,
+            application,
             keyword,
             keyword_value,
             applied.number,
             applied.passing,
-            beside.containing,
+            siblings.containing,
         )
     }
 
@@ -196,7 +198,7 @@ impl<'a> Evaluation<'a> {
         nesting: u32,
     ) -> Result<Applied, Halt>
         ensures stays { Stays self.old self.new result }
-        ensures said { (a : Application)
+        ensures outcome { (a : Application)
             → IsUnder (context_view self.old.context) (row_of keyword).name a
             → AreKnown self.old.linked.now (row_of keyword).name a planned.now.items
             → HasParts self.old self.new result (row_of keyword).meaning
@@ -221,7 +223,7 @@ impl<'a> Evaluation<'a> {
         nesting: u32,
     ) -> Result<bool, Halt>
         ensures stays { Stays self.old self.new result }
-        ensures said { (a : Application)
+        ensures outcome { (a : Application)
             → IsUnder (context_view self.old.context) (row_of keyword).name a
             → IsKnown self.old.linked.now (row_of keyword).name a planned.now
             → HasPart self.old self.new result (row_of keyword).meaning
@@ -243,7 +245,7 @@ impl<'a> Evaluation<'a> {
         nesting: u32,
     ) -> Result<bool, Halt>
         ensures stays { Stays self.old self.new result }
-        ensures said { (a : Application)
+        ensures outcome { (a : Application)
             → IsUnder (context_view self.old.context) (row_of keyword).name a
             → IsKnown self.old.linked.now (row_of keyword).name a planned.now
             → HasPart self.old self.new result (row_of keyword).meaning
@@ -259,8 +261,9 @@ impl<'a> Evaluation<'a> {
     #[cycle(apply)]
     fn apply_entered(&mut self, planned: &Planned<'a>, nesting: u32) -> Result<bool, Halt>
         ensures stays { Stays self.old self.new result }
-        ensures said { (a : Application) (k : Text)
-            → IsUnder (context_view self.old.context) k a → IsKnown self.old.linked.now k a planned.now
+        ensures outcome { (a : Application) (k : Text)
+            → IsUnder (context_view self.old.context) k a
+            → IsKnown self.old.linked.now k a planned.now
             → HasOutcome self.old self.new result
             (part_outcome self.old.linked.now nesting k a planned.now).1 }
     {

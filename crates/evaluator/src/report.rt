@@ -190,7 +190,7 @@ pub(crate) fn reported(
         → Gives result (answer_of limits.applications o) }
 {
     match judged(passed, log) {
-        Ok(valid) => made(alloc, valid, &log.units),
+        Ok(valid) => noted_report(alloc, valid, &log.units),
         Err(fault) => Err(fault),
     }
 }
@@ -217,7 +217,7 @@ fn judged(passed: Result<bool, Halt>, log: &Log<'_>) -> Result<bool, Fault>
 }
 
 // The report of all that was noted.
-fn made(alloc: Global, valid: bool, units: &NotedUnits) -> Result<Report, Fault>
+fn noted_report(alloc: Global, valid: bool, units: &NotedUnits) -> Result<Report, Fault>
     ensures valid { IfOk result (λ r. is_valid r ≡ valid) }
     ensures text { (o : Outcome) → o.valid ≡ valid
         → unit_texts (counted_units valid units.now) ≡ map (unit_text valid) (reported_units o)

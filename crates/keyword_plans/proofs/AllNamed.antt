@@ -22,7 +22,7 @@ use Rattle.json_doc.specs.Members.{HasNamesInOrder}
 use Rattle.linker.specs.declared.linked.Linked.{Linked}
 use Rattle.applicators.specs.Applications.{at_schema, planned_at_names}
 use Rattle.keyword_plans.specs.Applications.{named_count, planned_others}
-use Rattle.keyword_plans.specs.Sites.{linked_rules}
+use Rattle.keyword_plans.specs.ObjectApplications.{linked_rules}
 use Rattle.applicators.proofs.SharedNames.{along_members}
 
 abbrev is_named : List (Text × Value) → Text × Value → Bool

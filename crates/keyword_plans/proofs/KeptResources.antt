@@ -9,7 +9,7 @@ use Rattle.definitions.specs.Schemas.{Schema}
 use Rattle.definitions.specs.Targets.{schema_with_dynamic_anchor}
 use Rattle.definitions.specs.Values.{Text}
 use Rattle.linker.specs.LinkedDocuments.{linked_schemas}
-use Rattle.linker.specs.NumberedTexts.{AreTold, numbered_texts, told_number}
+use Rattle.linker.specs.NumberedTexts.{AreNumberedTexts, numbered_texts, number_of_text}
 use Rattle.linker.specs.declared.linked.Linked.{Linked}
 use Rattle.linker.specs.declared.linked_texts.LinkedTexts.{LinkedTexts}
 use Rattle.keyword_plans.specs.Held.{parts_cmp}
@@ -33,11 +33,11 @@ opened_after l t old new numbers around id uri r are updated same first second r
     right_after parts_cmp (exact_pairs nat_cmp nat_cmp exact_unsigned exact_unsigned) (IsOpened l t) old new numbers uri r are updated same
     (opened_once l t numbers around id uri first second right)
 
-pub opened_found : (l : Linked) (t : LinkedTexts) (kept : BTreeMap (ℕ × ℕ) (Bor Text)) (around id : Text) (uri : Bor Text) (s : Schema) → AreTold l t → AreOpened l t kept
-    → get parts_cmp kept (told_number t around, told_number t id) ≡ Some uri → slice_get (numbered_texts t) (told_number t around) ≡ Some around → Opens l s around id → uri.now ≡ s.resource
-opened_found l t kept around id uri s told are there known opens =
-    subst (λ o. IfSome o (IsOpened l t (told_number t around, told_number t id))) there (are (told_number t around, told_number t id)) s around id known
-    (told.identifiers s id opens.inside opens.root opens.has) opens
+pub opened_found : (l : Linked) (t : LinkedTexts) (kept : BTreeMap (ℕ × ℕ) (Bor Text)) (around id : Text) (uri : Bor Text) (s : Schema) → AreNumberedTexts l t → AreOpened l t kept
+    → get parts_cmp kept (number_of_text t around, number_of_text t id) ≡ Some uri → slice_get (numbered_texts t) (number_of_text t around) ≡ Some around → Opens l s around id → uri.now ≡ s.resource
+opened_found l t kept around id uri s are_numbered are there known opens =
+    subst (λ o. IfSome o (IsOpened l t (number_of_text t around, number_of_text t id))) there (are (number_of_text t around, number_of_text t id)) s around id known
+    (are_numbered.identifiers s id opens.inside opens.root opens.has) opens
 
 -- ---- the document of a resource
 document_once : (l : Linked) (t : LinkedTexts) (number document : ℕ) (uri : Text) → slice_get (numbered_texts t) number ≡ Some uri → IsDocument l uri (Some document)
@@ -51,10 +51,10 @@ document_after l t old new number document uri r are updated same at is =
     right_after nat_cmp exact_unsigned (λ n d. (other : Text) → slice_get (numbered_texts t) n ≡ Some other → IsDocument l other (Some d)) old new number document r are updated same
     (document_once l t number document uri at is)
 
-pub document_found : (l : Linked) (t : LinkedTexts) (kept : BTreeMap ℕ ℕ) (uri : Text) (document : ℕ) → AreDocuments l t kept → get nat_cmp kept (told_number t uri) ≡ Some document
-    → slice_get (numbered_texts t) (told_number t uri) ≡ Some uri → IsDocument l uri (Some document)
+pub document_found : (l : Linked) (t : LinkedTexts) (kept : BTreeMap ℕ ℕ) (uri : Text) (document : ℕ) → AreDocuments l t kept → get nat_cmp kept (number_of_text t uri) ≡ Some document
+    → slice_get (numbered_texts t) (number_of_text t uri) ≡ Some uri → IsDocument l uri (Some document)
 document_found l t kept uri document are there known =
-    subst (λ o. IfSome o (λ d. (other : Text) → slice_get (numbered_texts t) (told_number t uri) ≡ Some other → IsDocument l other (Some d))) there (are (told_number t uri)) uri known
+    subst (λ o. IfSome o (λ d. (other : Text) → slice_get (numbered_texts t) (number_of_text t uri) ≡ Some other → IsDocument l other (Some d))) there (are (number_of_text t uri)) uri known
 
 -- ---- the schema with a dynamic anchor in a resource
 anchored_once : (l : Linked) (t : LinkedTexts) (numbers : ℕ × ℕ) (uri name : Text) (found : Option Target) → slice_get (numbered_texts t) numbers.0 ≡ Some uri
@@ -70,11 +70,11 @@ anchored_after l t old new numbers uri name found r are updated same first secon
     right_after parts_cmp (exact_pairs nat_cmp nat_cmp exact_unsigned exact_unsigned) (IsAnchored l t) old new numbers found r are updated same
     (anchored_once l t numbers uri name found first second is)
 
-pub anchored_found : (l : Linked) (t : LinkedTexts) (kept : BTreeMap (ℕ × ℕ) (Option Target)) (uri name : Text) (found : Option Target) → AreTold l t → AreAnchored l t kept
-    → get parts_cmp kept (told_number t uri, told_number t name) ≡ Some found → HasResource l uri → HasAnchor l name
+pub anchored_found : (l : Linked) (t : LinkedTexts) (kept : BTreeMap (ℕ × ℕ) (Option Target)) (uri name : Text) (found : Option Target) → AreNumberedTexts l t → AreAnchored l t kept
+    → get parts_cmp kept (number_of_text t uri, number_of_text t name) ≡ Some found → HasResource l uri → HasAnchor l name
     → option_map target_view found ≡ schema_with_dynamic_anchor (linked_schemas l) uri name
-anchored_found l t kept uri name found told are there resource anchor =
-    let known : slice_get (numbered_texts t) (told_number t uri) ≡ Some uri =
-    subst (λ u. slice_get (numbered_texts t) (told_number t u) ≡ Some u) resource.2 (told.resources resource.0 resource.1) in
-    subst (λ o. IfSome o (IsAnchored l t (told_number t uri, told_number t name))) there (are (told_number t uri, told_number t name)) uri name known
-    (told.anchors name anchor)
+anchored_found l t kept uri name found are_numbered are there resource anchor =
+    let known : slice_get (numbered_texts t) (number_of_text t uri) ≡ Some uri =
+    subst (λ u. slice_get (numbered_texts t) (number_of_text t u) ≡ Some u) resource.2 (are_numbered.resources resource.0 resource.1) in
+    subst (λ o. IfSome o (IsAnchored l t (number_of_text t uri, number_of_text t name))) there (are (number_of_text t uri, number_of_text t name)) uri name known
+    (are_numbered.anchors name anchor)

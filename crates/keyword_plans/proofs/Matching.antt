@@ -7,8 +7,8 @@ use Rattle.definitions.specs.Schemas.{Schema}
 use Rattle.definitions.specs.Applied.{Application}
 use Rattle.linker.specs.LinkedDocuments.{linked_schemas}
 use Rattle.linker.specs.declared.linked.Linked.{Linked}
-use Rattle.keyword_plans.specs.Sites.{Shows}
-use Rattle.keyword_plans.specs.declared.site.Site.{Site}
+use Rattle.keyword_plans.specs.ObjectApplications.{Shows}
+use Rattle.keyword_plans.specs.declared.application.ObjectApplication.{ObjectApplication}
 use Rattle.keyword_plans.specs.Applications.{ArePatternsOf}
 
 pub first_pattern : (l : Linked) (uri : Text) (s : Schema) (left : List (Text × Value)) (p : Text × Value) (rest : List (Text × Value)) → left ≡ p ∷ rest
@@ -26,5 +26,5 @@ same_inside l m s e inside = subst (λ (k : Bor Linked). Contains (linked_schema
 pub same_patterns : (l m : Bor Linked) (uri : Text) (s : Schema) (ps : List (Text × Value)) → l ≡ m → ArePatternsOf m.now uri s ps → ArePatternsOf l.now uri s ps
 same_patterns l m uri s ps e are = subst (λ (k : Bor Linked). ArePatternsOf k.now uri s ps) (sym e) are
 
-pub same_shown : (l : Bor Linked) (site : Site) (a : Application) → l ≡ site.linked → Shows site a → Contains (linked_schemas l.now) a.schema
-same_shown l site a e shows = same_inside l site.linked a.schema e shows.inside
+pub same_shown : (l : Bor Linked) (application : ObjectApplication) (a : Application) → l ≡ application.linked → Shows application a → Contains (linked_schemas l.now) a.schema
+same_shown l application a e shows = same_inside l application.linked a.schema e shows.inside

@@ -9,8 +9,8 @@ use Rattle.definitions.specs.Searches.{patterns_of}
 use Rattle.definitions.specs.Schemas.{Schema}
 use Rattle.definitions.specs.Lists.{option_list}
 use Rattle.definitions.specs.Applied.{Application, beside}
-use Rattle.keyword_plans.specs.Sites.{Shows}
-use Rattle.keyword_plans.specs.declared.site.Site.{Site}
+use Rattle.keyword_plans.specs.ObjectApplications.{Shows}
+use Rattle.keyword_plans.specs.declared.application.ObjectApplication.{ObjectApplication}
 use Rattle.keyword_plans.specs.Applications.{ArePatternsOf, planned_pattern}
 
 contains-first : {Y : Type 0} (y : Y) (ys : List Y) → Contains (y ∷ ys) y
@@ -29,17 +29,17 @@ patterns-of s v e =
     (λ (o : Option Value). AllByRecursion (λ p. Contains (option_list (text_at (codes "pattern") s.value) ++ unwrap_or (option_map (λ v. map (λ m. m.0) (members v)) o) []) p.0) (members v))
     (sym e) (all_in (λ (m : Text × Value). m.0) (option_list (text_at (codes "pattern") s.value)) (members v))
 
-pub site_patterns : (site : Site) (a : Application) (v : Value) → Shows site a → get (codes "patternProperties") a.schema.value ≡ Some v
-    → ArePatternsOf site.linked.now site.resource.now a.schema (members v)
-site_patterns site a v shows e = record { inside = shows.inside; resource = shows.resource; patterns = patterns-of a.schema v e }
+pub site_patterns : (application : ObjectApplication) (a : Application) (v : Value) → Shows application a → get (codes "patternProperties") a.schema.value ≡ Some v
+    → ArePatternsOf application.linked.now application.resource.now a.schema (members v)
+site_patterns application a v shows e = record { inside = shows.inside; resource = shows.resource; patterns = patterns-of a.schema v e }
 
 -- where the keyword may be absent
 beside-of : (s : Schema) (o : Option Value) → get (codes "patternProperties") s.value ≡ o → AllByRecursion (λ p. Contains (patterns_of s) p.0) (members (unwrap_or o null))
 beside-of s None e = tt
 beside-of s (Some v) e = patterns-of s v e
 
-pub patterns_beside : (site : Site) (a : Application) → Shows site a → ArePatternsOf site.linked.now site.resource.now a.schema (members (beside a (codes "patternProperties")))
-patterns_beside site a shows = record { inside = shows.inside; resource = shows.resource; patterns = beside-of a.schema (get (codes "patternProperties") a.schema.value) refl }
+pub patterns_beside : (application : ObjectApplication) (a : Application) → Shows application a → ArePatternsOf application.linked.now application.resource.now a.schema (members (beside a (codes "patternProperties")))
+patterns_beside application a shows = record { inside = shows.inside; resource = shows.resource; patterns = beside-of a.schema (get (codes "patternProperties") a.schema.value) refl }
 
 -- ---- what stands under `pattern`
 pub string-of : (v : Value) (p : Text) → Some p ≡ as_string v → v ≡ string p

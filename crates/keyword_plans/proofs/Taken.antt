@@ -6,7 +6,7 @@ use Rattle.definitions.specs.Patterns.{has_match}
 use Rattle.definitions.specs.Applied.{Application, named, at_part, beside, is_taken}
 use Rattle.linker.specs.declared.linked.Linked.{Linked}
 use Rattle.keyword_plans.specs.Applications.{planned_others}
-use Rattle.keyword_plans.specs.Sites.{linked_rules}
+use Rattle.keyword_plans.specs.ObjectApplications.{linked_rules}
 use Rattle.keyword_plans.specs.Beside.{AreTakers, StandsBeside}
 use Rattle.keyword_plans.specs.declared.planning.others.PropertyKeywords.{PropertyKeywords}
 use Rattle.keyword_plans.specs.declared.planning.others.Takers.{Takers}

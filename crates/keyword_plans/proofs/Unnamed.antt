@@ -7,7 +7,7 @@ use Rattle.definitions.specs.Patterns.{has_match}
 use Rattle.definitions.specs.Applied.{Application, Part, named, at_part, at_members, beside, is_taken}
 use Rattle.linker.specs.declared.linked.Linked.{Linked}
 use Rattle.keyword_plans.specs.Applications.{planned_others, planned_unnamed, at_unnamed}
-use Rattle.keyword_plans.specs.Sites.{linked_rules}
+use Rattle.keyword_plans.specs.ObjectApplications.{linked_rules}
 
 module _ (k : Text) (a : Application) (v : Value) where
   one_more : (m : Text × Value) (o : Option Value) (b : Bool) (us : List (Part × Application)) (ms : List (Text × Value)) → b ≡ is_some o → us ≡ at_members a k v ms

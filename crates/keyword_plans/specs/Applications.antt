@@ -8,7 +8,7 @@ use Rattle.definitions.specs.Schemas.{Schema}
 use Rattle.definitions.specs.Applied.{Application, Part, named, at_part, at_members, beside, is_taken}
 use Rattle.linker.specs.LinkedDocuments.{linked_schemas}
 use Rattle.linker.specs.declared.linked.Linked.{Linked}
-use Rattle.keyword_plans.specs.Sites.{linked_rules}
+use Rattle.keyword_plans.specs.ObjectApplications.{linked_rules}
 use Rattle.applicators.specs.Applications.{planned_members}
 
 -- how many members of the instance `properties` beside names

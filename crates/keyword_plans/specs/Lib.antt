@@ -1,4 +1,4 @@
-pub mod Sites
+pub mod ObjectApplications
 pub mod Followed
 pub mod FollowedIn
 pub mod Searched

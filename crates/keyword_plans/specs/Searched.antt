@@ -6,7 +6,7 @@ use Rattle.definitions.specs.Targets.{schema_with_dynamic_anchor}
 use Rattle.definitions.specs.Values.{Text}
 use Rattle.linker.specs.DynamicTargets.{is_anchored}
 use Rattle.linker.specs.LinkedDocuments.{linked_schemas}
-use Rattle.linker.specs.NumberedTexts.{telling_texts}
+use Rattle.linker.specs.NumberedTexts.{texts_of_linked}
 use Rattle.linker.specs.declared.linked.Linked.{Linked}
 use Rattle.keyword_plans.specs.Followed.{target_view}
 use Rattle.keyword_plans.specs.LinkedResources.{HasAnchor, HasNumber, HasResource}
@@ -22,5 +22,5 @@ pub record AreSearched (l : Linked) (uris : List Text) (name : Text) (passed : â
 
 pub record IsSearched (l : Linked) (uris : List Text) (s : SearchedAnchor) : Type 0 where
   pub anchor : HasAnchor l s.name.now
-  pub number : HasNumber (telling_texts l) s.name.now s.number
+  pub number : HasNumber (texts_of_linked l) s.name.now s.number
   pub searched : AreSearched l uris s.name.now s.passed (option_map target_view s.found)

@@ -5,7 +5,7 @@ ghost use Rattle.std.proofs.Props.{props};
 ghost use Rattle.definitions.specs.Schemas.{Schema};
 ghost use Rattle.definitions.specs.Targets.{schema_with_dynamic_anchor};
 ghost use Rattle.linker.specs.LinkedDocuments.{linked_schemas};
-ghost use Rattle.linker.specs.NumberedTexts.{telling_texts};
+ghost use Rattle.linker.specs.NumberedTexts.{texts_of_linked};
 ghost use Rattle.linker.specs.ReferenceNumbers.{StandsIn, document_at};
 ghost use Rattle.linker.specs.ValueSets.{value_set};
 ghost use Rattle.keyword_plans.specs.Followed.{target_view};
@@ -131,7 +131,7 @@ impl<'a> ComparedResources<'a> {
         name: &str,
     ) -> Result<Option<usize>, AllocError>
         ensures ok { HasAnchor (compared_in self.old).now name.now → IfOk result
-            (HasNumber (telling_texts (compared_in self.old).now) name.now) }
+            (HasNumber (texts_of_linked (compared_in self.old).now) name.now) }
         ensures linked { compared_in self.new ≡ compared_in self.old }
     {
         self.compare(alloc, name.len())?;

@@ -8,7 +8,7 @@ ghost use Rattle.definitions.specs.Schemas.{Schema};
 ghost use Rattle.definitions.specs.Targets.{dynamic_target, outermost, target};
 ghost use Rattle.definitions.specs.Values.{Text};
 ghost use Rattle.linker.specs.LinkedDocuments.{linked_schemas};
-ghost use Rattle.linker.specs.NumberedTexts.{telling_texts};
+ghost use Rattle.linker.specs.NumberedTexts.{texts_of_linked};
 ghost use Rattle.linker.specs.declared.linked.Linked.{Linked};
 ghost use Rattle.keyword_plans.specs.Followed.{HasFollowedAnchor, Refers, followed_in_scope, target_view};
 ghost use Rattle.keyword_plans.specs.FollowedIn.{followed_in};
@@ -246,7 +246,8 @@ impl<'a> DynamicScope<'a> {
     // How far the scope was searched for this dynamic anchor.
     fn begun(&self, name: &'a str, number: Option<usize>) -> Result<SearchedAnchor<'a>, AllocError>
         requires anchor { HasAnchor (scope_documents self.now).now name.now }
-        requires number { HasNumber (telling_texts (scope_documents self.now).now) name.now number }
+        requires number { HasNumber (texts_of_linked
+            (scope_documents self.now).now) name.now number }
         ensures right { IfOk result
             (λ s. IsSearched (scope_documents self.now).now (scope_uris self.now) s) }
         ensures name { IfOk result (λ s. s.name.now ≡ name.now) }

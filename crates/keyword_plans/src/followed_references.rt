@@ -9,7 +9,7 @@ ghost use Rattle.definitions.specs.Targets.{schema_with_dynamic_anchor, target};
 ghost use Rattle.definitions.specs.Values.{Text};
 ghost use Rattle.linker.specs.LinkedDocuments.{linked_schemas};
 ghost use Rattle.linker.specs.declared.linked.Linked.{Linked};
-ghost use Rattle.linker.specs.NumberedTexts.{telling_texts};
+ghost use Rattle.linker.specs.NumberedTexts.{texts_of_linked};
 ghost use Rattle.linker.specs.ReferenceNumbers.{reference_pair};
 ghost use Rattle.keyword_plans.specs.ComparedIn.{compared_in};
 ghost use Rattle.keyword_plans.specs.Followed.{AreFollowed, HasFollowedAnchor, IsFollowed, IsNamed, Refers, target_view};
@@ -159,7 +159,7 @@ impl<'a> FollowedReferences<'a> {
         name: &str,
     ) -> Result<Option<usize>, AllocError>
         ensures ok { HasAnchor (followed_in self.old).now name.now → IfOk result
-            (HasNumber (telling_texts (followed_in self.old).now) name.now) }
+            (HasNumber (texts_of_linked (followed_in self.old).now) name.now) }
         ensures linked { followed_in self.new ≡ followed_in self.old }
     {
         self.resources.anchor_number(alloc, name)

@@ -6,7 +6,7 @@ ghost use Rattle.definitions.specs.Schemas.{Schema};
 ghost use Rattle.definitions.specs.Targets.{schema_with_dynamic_anchor};
 ghost use Rattle.linker.specs.LinkedDocuments.{linked_schemas};
 ghost use Rattle.linker.specs.ValueSets.{value_set};
-ghost use Rattle.linker.specs.NumberedTexts.{AreTold, telling_texts};
+ghost use Rattle.linker.specs.NumberedTexts.{AreNumberedTexts, texts_of_linked};
 ghost use Rattle.keyword_plans.specs.Followed.{target_view};
 ghost use Rattle.keyword_plans.specs.LinkedResources.{HasAnchor, HasResource};
 ghost use Rattle.keyword_plans.specs.OpenedResources.{AreAnchored, AreDocuments, AreOpened, IsDocument};
@@ -28,7 +28,7 @@ pub(crate) struct NumberedResources<'a> {
     documents: BTreeMap<usize, usize>,
     // The schema with a dynamic anchor in a resource, by the numbers of the resource's URI and of the anchor.
     anchored: BTreeMap<(usize, usize), Option<Target<'a>>>,
-    ghost told: { AreTold linked.now texts },
+    ghost are_numbered: { AreNumberedTexts linked.now texts },
     ghost opened_right: { AreOpened linked.now texts opened } by { Prim.hlevel (props, value_set) },
     ghost documents_right: { AreDocuments linked.now texts documents } by { Prim.hlevel (props, value_set) },
     ghost anchored_right: { AreAnchored linked.now texts anchored } by { Prim.hlevel (props, value_set) },
@@ -121,7 +121,7 @@ impl<'a> NumberedResources<'a> {
     /// The number of a dynamic anchor of the documents.
     pub(crate) fn anchor_number(&self, name: &str) -> usize
         ensures { HasAnchor self.now.linked.now name.now
-            → slice_get (telling_texts self.now.linked.now) result ≡ Some name.now }
+            → slice_get (texts_of_linked self.now.linked.now) result ≡ Some name.now }
     {
         self.texts.number(name)
     }

@@ -11,7 +11,7 @@ ghost use Rattle.keyword_plans.specs.SearchedIn.{searched_in};
 ghost use Rattle.applicators.specs.Plans.{planned_view};
 ghost use Rattle.keyword_plans.specs.Plans.{applies_in_place, follows_reference, is_consequence, searches_patterns, takes_others};
 ghost use Rattle.keyword_plans.specs.Applications.{named_count};
-ghost use Rattle.keyword_plans.specs.Sites.{Shows, linked_rules};
+ghost use Rattle.keyword_plans.specs.ObjectApplications.{Shows, linked_rules};
 ghost use Rattle.applicators.specs.Subjects.{subject_value};
 ghost use Rattle.linker.specs.LinkedDocuments.{linked_schemas};
 ghost use Rattle.linker.specs.declared.linked.Linked.{Linked};
@@ -20,12 +20,12 @@ mod matching;
 mod others;
 mod references;
 
+use crate::application::{Earlier, ObjectApplication};
 use crate::dynamic_scope::DynamicScope;
 use crate::planning::matching::plan_patterns;
 use crate::planning::others::{are_all_named, plan_others};
 use crate::planning::references::{plan_dynamic_reference, plan_reference};
 use crate::searches::Searches;
-use crate::site::{Earlier, Site};
 use applicators::{
     Evaluated, Planned, Subject, plan_consequence, plan_dependents, plan_items, plan_listed,
     plan_names, plan_own, plan_prefix, plan_properties, plan_unevaluated_items,
@@ -38,26 +38,26 @@ use std::alloc::AllocError;
 /// What the keyword of the schema, with this value, applies, in order (JSON Schema 2020-12 Core, 7.1, 10 and 11): it stands
 /// in `planned` in place of all that stood there.
 ///
-/// `then`, `else`, `unevaluatedItems` and `unevaluatedProperties` need what was said `earlier`. `scope` is the dynamic scope, the schema's own resource last, and keeps what is followed here, as `searches` keep the patterns that
+/// `then`, `else`, `unevaluatedItems` and `unevaluatedProperties` need what is known `earlier`. `scope` is the dynamic scope, the schema's own resource last, and keeps what is followed here, as `searches` keep the patterns that
 /// are searched for. The only error is want of memory.
 #[inline(always)]
 pub fn plan<'a>(
     planned: &mut Vec<Planned<'a>>,
     scope: &mut DynamicScope<'a>,
     searches: &mut Searches<'a>,
-    site: Site<'a>,
+    application: ObjectApplication<'a>,
     keyword: Keyword,
     keyword_value: &'a Doc,
     earlier: Earlier<'_, 'a>,
 ) -> Result<(), AllocError>
-    ensures ok { (a : Application) (run : Application → Outcome) → Shows site.entry a
-        → scope_documents scope.old ≡ site.entry.linked → a.scope ≡ scope_uris scope.old
-        → searched_in searches.old ≡ site.entry.linked
+    ensures ok { (a : Application) (run : Application → Outcome) → Shows application.entry a
+        → scope_documents scope.old ≡ application.entry.linked → a.scope ≡ scope_uris scope.old
+        → searched_in searches.old ≡ application.entry.linked
         → get (row_of keyword).name a.schema.value ≡ Some (value keyword_value.now)
         → (is_consequence (row_of keyword).meaning ≡ true
         → option_map (λ o. o.valid) (condition_outcome run a) ≡ earlier.entry.condition)
         → OnOk result (map (planned_view (row_of keyword).name a) planned.new.items
-        ≡ keyword_applications (linked_rules site.entry.linked.now) run
+        ≡ keyword_applications (linked_rules application.entry.linked.now) run
         (map name_text earlier.entry.evaluated.names.now)
         earlier.entry.evaluated.indexes.now a
         (row_of keyword).name (row_of keyword).meaning (value keyword_value.now)) }
@@ -67,13 +67,18 @@ pub fn plan<'a>(
 {
     planned.clear();
     match keyword {
-        Keyword::Ref => plan_reference(planned, scope, &site, keyword_value),
-        Keyword::DynamicRef => plan_dynamic_reference(planned, scope, &site, keyword_value),
-        Keyword::PatternProperties => plan_patterns(planned, searches, &site, keyword_value),
-        Keyword::AdditionalProperties => plan_others(planned, searches, &site, keyword_value),
+        Keyword::Ref => plan_reference(planned, scope, &application, keyword_value),
+        Keyword::DynamicRef => plan_dynamic_reference(planned, scope, &application, keyword_value),
+        Keyword::PatternProperties => plan_patterns(planned, searches, &application, keyword_value),
+        Keyword::AdditionalProperties => plan_others(
+            planned,
+            searches,
+            &application,
+            keyword_value,
+        ),
         _ => plan_subschemas(
             planned,
-            &site,
+            &application,
             keyword,
             keyword_value,
             earlier.condition,
@@ -103,7 +108,7 @@ pub fn surely_applies_nothing(keyword: Keyword, subject: Subject<'_>, named: u64
 #[inline(always)]
 fn plan_subschemas<'a>(
     planned: &mut Vec<Planned<'a>>,
-    site: &Site<'a>,
+    application: &ObjectApplication<'a>,
     keyword: Keyword,
     keyword_value: &'a Doc,
     condition: Option<bool>,
@@ -112,16 +117,16 @@ fn plan_subschemas<'a>(
     requires empty { planned.old.items ≡ [] }
     requires reference { follows_reference keyword ≡ false }
     requires pattern { searches_patterns keyword ≡ false }
-    ensures { (a : Application) (run : Application → Outcome) → Shows site.now a
+    ensures { (a : Application) (run : Application → Outcome) → Shows application.now a
         → get (row_of keyword).name a.schema.value ≡ Some (value keyword_value.now)
         → (is_consequence (row_of keyword).meaning ≡ true
         → option_map (λ o. o.valid) (condition_outcome run a) ≡ condition)
         → OnOk result (map (planned_view (row_of keyword).name a) planned.new.items
-        ≡ keyword_applications (linked_rules site.now.linked.now) run
+        ≡ keyword_applications (linked_rules application.now.linked.now) run
         (map name_text evaluated.entry.names.now) evaluated.entry.indexes.now a
         (row_of keyword).name (row_of keyword).meaning (value keyword_value.now)) }
 {
-    let subject = &site.subject;
+    let subject = &application.subject;
     match keyword {
         Keyword::AllOf => plan_listed(planned, keyword_value, subject),
         Keyword::AnyOf => plan_listed(planned, keyword_value, subject),
@@ -131,7 +136,7 @@ fn plan_subschemas<'a>(
         Keyword::Then => plan_consequence(planned, keyword_value, subject, condition, true),
         Keyword::Else => plan_consequence(planned, keyword_value, subject, condition, false),
         Keyword::DependentSchemas => plan_dependents(planned, keyword_value, subject),
-        _ => plan_children(planned, site, keyword, keyword_value, evaluated),
+        _ => plan_children(planned, application, keyword, keyword_value, evaluated),
     }
 }
 
@@ -139,7 +144,7 @@ fn plan_subschemas<'a>(
 #[inline(always)]
 fn plan_children<'a>(
     planned: &mut Vec<Planned<'a>>,
-    site: &Site<'a>,
+    application: &ObjectApplication<'a>,
     keyword: Keyword,
     keyword_value: &'a Doc,
     evaluated: Evaluated<'_, 'a>,
@@ -147,17 +152,22 @@ fn plan_children<'a>(
     requires empty { planned.old.items ≡ [] }
     requires place { applies_in_place keyword ≡ false }
     requires pattern { searches_patterns keyword ≡ false }
-    ensures { (a : Application) (run : Application → Outcome) → Shows site.now a
+    ensures { (a : Application) (run : Application → Outcome) → Shows application.now a
         → get (row_of keyword).name a.schema.value ≡ Some (value keyword_value.now)
         → OnOk result (map (planned_view (row_of keyword).name a) planned.new.items
-        ≡ keyword_applications (linked_rules site.now.linked.now) run
+        ≡ keyword_applications (linked_rules application.now.linked.now) run
         (map name_text evaluated.entry.names.now) evaluated.entry.indexes.now a
         (row_of keyword).name (row_of keyword).meaning (value keyword_value.now)) }
 {
-    let subject = &site.subject;
+    let subject = &application.subject;
     match keyword {
         Keyword::PrefixItems => plan_prefix(planned, keyword_value, subject),
-        Keyword::Items => plan_items(planned, keyword_value, prefix_length(site.schema), subject),
+        Keyword::Items => plan_items(
+            planned,
+            keyword_value,
+            prefix_length(application.schema),
+            subject,
+        ),
         Keyword::Contains => plan_items(planned, keyword_value, 0, subject),
         Keyword::Properties => plan_properties(planned, keyword_value, subject),
         Keyword::PropertyNames => plan_names(planned, keyword_value, subject),

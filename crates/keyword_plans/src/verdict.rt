@@ -12,11 +12,11 @@ ghost use Rattle.keywords.specs.Rows.{row_of};
 ghost use Rattle.applicators.specs.Plans.{outcomes_of};
 ghost use Rattle.keyword_plans.specs.Plans.{counts_contained};
 ghost use Rattle.keyword_plans.specs.SearchedIn.{searched_in};
-ghost use Rattle.keyword_plans.specs.Sites.{Shows, linked_rules};
+ghost use Rattle.keyword_plans.specs.ObjectApplications.{Shows, linked_rules};
 ghost use Rattle.applicators.specs.Subjects.{subject_value};
 
+use crate::application::ObjectApplication;
 use crate::searches::Searches;
-use crate::site::Site;
 use applicators::Subject;
 use assertions::{Assertion, holds, is_at_least, is_at_most};
 use json_doc::{Doc, Whole};
@@ -30,7 +30,7 @@ use std::alloc::{AllocError, Global};
 /// there. The only error is want of memory.
 pub fn passes<'a>(
     searches: &mut Searches<'a>,
-    site: Site<'a>,
+    application: ObjectApplication<'a>,
     keyword: Keyword,
     keyword_value: &'a Doc,
     applied: u64,
@@ -38,31 +38,45 @@ pub fn passes<'a>(
     containing: Option<u64>,
 ) -> Result<bool, AllocError>
     ensures passes { (a : Application) (run : Application → Outcome) (names : List Text)
-        (indexes : List ℕ) → Shows site.entry a → searched_in searches.old ≡ site.entry.linked
+        (indexes : List ℕ) → Shows application.entry a → searched_in searches.old
+        ≡ application.entry.linked
         → get (row_of keyword).name a.schema.value ≡ Some (value keyword_value.now)
         → (counts_contained (row_of keyword).meaning ≡ true
         → option_map (count_by (λ o. o.valid)) (contains_outcomes run a) ≡ containing)
-        → let os = outcomes_of (linked_rules site.entry.linked.now) run names indexes a
+        → let os = outcomes_of (linked_rules application.entry.linked.now) run names indexes a
         (row_of keyword).name (row_of keyword).meaning (value keyword_value.now) in
         applied ≡ length os → passing ≡ pass_count os
-        → IfOk result (λ b. b ≡ keyword_passes (linked_rules site.entry.linked.now) run a
+        → IfOk result (λ b. b ≡ keyword_passes (linked_rules application.entry.linked.now) run a
         (row_of keyword).name (row_of keyword).meaning (value keyword_value.now) os) }
     ensures searched { searched_in searches.new ≡ searched_in searches.old }
 {
     if let Some(assertion) = Assertion::of(keyword) {
-        return holds_of(searches.allocator(), assertion, keyword_value, site.subject);
+        return holds_of(
+            searches.allocator(),
+            assertion,
+            keyword_value,
+            application.subject,
+        );
     }
     match keyword {
-        Keyword::Pattern => is_pattern_met(searches, site, keyword_value),
+        Keyword::Pattern => is_pattern_met(searches, application, keyword_value),
         Keyword::Ref => Ok(passing == 1),
         Keyword::DynamicRef => Ok(passing == 1),
         Keyword::AnyOf => Ok(passing > 0),
         Keyword::OneOf => Ok(passing == 1),
         Keyword::Not => Ok(passing == 0),
         Keyword::If => Ok(true),
-        Keyword::Contains => Ok(contains_enough(passing, site)),
-        Keyword::MinContains => Ok(contains_at_least(site.subject, keyword_value, containing)),
-        Keyword::MaxContains => Ok(contains_at_most(site.subject, keyword_value, containing)),
+        Keyword::Contains => Ok(contains_enough(passing, application)),
+        Keyword::MinContains => Ok(contains_at_least(
+            application.subject,
+            keyword_value,
+            containing,
+        )),
+        Keyword::MaxContains => Ok(contains_at_most(
+            application.subject,
+            keyword_value,
+            containing,
+        )),
         _ => Ok(passing == applied),
     }
 }
@@ -105,18 +119,18 @@ fn holds_of_name(
 // Whether the pattern matches the subject, where it is a string (Validation, 6.3.3).
 fn is_pattern_met(
     searches: &mut Searches<'_>,
-    site: Site<'_>,
+    application: ObjectApplication<'_>,
     pattern: &Doc,
 ) -> Result<bool, AllocError>
-    ensures met { (a : Application) → Shows site.entry a
-        → searched_in searches.old ≡ site.entry.linked
+    ensures met { (a : Application) → Shows application.entry a
+        → searched_in searches.old ≡ application.entry.linked
         → get (codes "pattern") a.schema.value ≡ Some (value pattern.now)
         → IfOk result (λ b. b ≡ pattern_holds has_match (value pattern.now) a.instance) }
     ensures searched { searched_in searches.new ≡ searched_in searches.old }
 {
     match pattern.as_str() {
-        Some(pattern) => match site.subject.as_str() {
-            Some(text) => searches.is_match(site.resource, pattern, text),
+        Some(pattern) => match application.subject.as_str() {
+            Some(text) => searches.is_match(application.resource, pattern, text),
             None => Ok(true),
         },
         None => Ok(true),
@@ -125,12 +139,12 @@ fn is_pattern_met(
 
 // Whether so many passing elements are enough for `contains` (Core, 10.3.1.3): one at least, unless `minContains` beside
 // is 0.
-fn contains_enough(passing: u64, site: Site<'_>) -> bool
-    ensures { (a : Application) → Shows site.entry a
+fn contains_enough(passing: u64, application: ObjectApplication<'_>) -> bool
+    ensures { (a : Application) → Shows application.entry a
         → result ≡ (not (is_array a.instance)
         || (nat_lt 0 passing || needs_none (beside a (codes "minContains")))) }
 {
-    !site.subject.is_array() || passing > 0 || needs_none(site.schema)
+    !application.subject.is_array() || passing > 0 || needs_none(application.schema)
 }
 
 fn needs_none(schema: &Doc) -> bool

@@ -19,5 +19,5 @@ pub mod Distinct
 pub mod StandingSchemas
 pub mod HeldResources
 pub mod NumberedResources
-pub mod ToldTexts
+pub mod NumberedTexts
 pub mod Searchable

@@ -44,8 +44,8 @@ read table text r n is first dynamic anchored =
     record {
       first = first ∙ same;
       dynamic = λ scope. dynamic scope
-      ∙ ap (option_map (λ first. dynamic_by table scope first (Ok (fragment_view r.fragment)))) same
-      ∙ ap (λ kind. option_map (λ first. dynamic_by table scope first kind) (target table text)) (sym is.1);
+          ∙ ap (option_map (λ first. dynamic_by table scope first (Ok (fragment_view r.fragment)))) same
+          ∙ ap (λ kind. option_map (λ first. dynamic_by table scope first kind) (target table text)) (sym is.1);
       anchored = anchored;
     }
 

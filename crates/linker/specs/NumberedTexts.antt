@@ -16,21 +16,21 @@ unfoldable pub numbered_texts : LinkedTexts → List Text
 numbered_texts t = map (λ text. text.now) t.texts.items
 
 -- the number that is told of a text
-unfoldable pub told_number : LinkedTexts → Text → ℕ
-told_number t text = text_number t.numbers text
+unfoldable pub number_of_text : LinkedTexts → Text → ℕ
+number_of_text t text = text_number t.numbers text
 
 -- that is its own
-abbrev pub IsTold : LinkedTexts → Text → Type 0
-IsTold t text = slice_get (numbered_texts t) (told_number t text) ≡ Some text
+abbrev pub IsNumberedText : LinkedTexts → Text → Type 0
+IsNumberedText t text = slice_get (numbered_texts t) (number_of_text t text) ≡ Some text
 
 -- the URIs of the documents' resources and the `$id`s of their roots, document by document, and the names of dynamic anchors
-unfoldable pub telling_texts : Linked → List Text
-telling_texts l = flat_map identifying_texts l.documents.items ++ map string_bytes (keys l.dynamic_resources)
+unfoldable pub texts_of_linked : Linked → List Text
+texts_of_linked l = flat_map identifying_texts l.documents.items ++ map string_bytes (keys l.dynamic_resources)
 
 -- the URI of each resource of the documents, the `$id` of each resource's root and each dynamic anchor are told their own
 -- numbers
-pub record AreTold (l : Linked) (t : LinkedTexts) : Type 0 where
-  pub all : numbered_texts t ≡ telling_texts l
-  pub resources : (s : Schema) → Contains (linked_schemas l) s → IsTold t s.resource
-  pub identifiers : (s : Schema) (id : Text) → Contains (linked_schemas l) s → s.pointer ≡ [] → text_at (codes "$id") s.value ≡ Some id → IsTold t id
-  pub anchors : (name : Text) → has_anchor (linked_schemas l) name ≡ true → IsTold t name
+pub record AreNumberedTexts (l : Linked) (t : LinkedTexts) : Type 0 where
+  pub all : numbered_texts t ≡ texts_of_linked l
+  pub resources : (s : Schema) → Contains (linked_schemas l) s → IsNumberedText t s.resource
+  pub identifiers : (s : Schema) (id : Text) → Contains (linked_schemas l) s → s.pointer ≡ [] → text_at (codes "$id") s.value ≡ Some id → IsNumberedText t id
+  pub anchors : (name : Text) → has_anchor (linked_schemas l) name ≡ true → IsNumberedText t name

@@ -33,7 +33,11 @@ impl<A: Source, B: Source> Both<A, B> {
 impl<A: Source, B: Source> Source for Both<A, B> {
     ghost documents = { λ b. documents_of_both (B.documents b.second) (A.documents b.first) };
 
-    fn holding(&mut self, alloc: Global, resource: &str) -> Result<Option<Rc<Compiled>>, AllocError> {
+    fn holding(
+        &mut self,
+        alloc: Global,
+        resource: &str,
+    ) -> Result<Option<Rc<Compiled>>, AllocError> {
         match self.first.holding(alloc, resource)? {
             Some(document) => Ok(Some(document)),
             None => self.second.holding(alloc, resource),

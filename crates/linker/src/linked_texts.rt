@@ -15,7 +15,7 @@ use text_numbers::TextNumbers;
 /// The URIs of the resources of linked documents, the `$id`s of these resources' roots, and the names of their dynamic anchors,
 /// by number: each is told by the bytes in which it differs from the others.
 ///
-/// Contracts see them in the order of their numbers, by `numbered_texts`, and the number that is told of a text, by `told_number`.
+/// Contracts see them in the order of their numbers, by `numbered_texts`, and the number that is told of a text, by `number_of_text`.
 #[derive(Drop)]
 pub struct LinkedTexts<'a> {
     texts: Vec<&'a str>,
@@ -23,12 +23,12 @@ pub struct LinkedTexts<'a> {
 }
 
 impl<'a> LinkedTexts<'a> {
-    ghost use Rattle.linker.specs.NumberedTexts.{numbered_texts, told_number};
+    ghost use Rattle.linker.specs.NumberedTexts.{numbered_texts, number_of_text};
 
     /// The number of the text, where it is one of these, and some number otherwise. It takes no memory.
-    #[tactic(auto, unfolding(crate::specs::NumberedTexts::told_number))]
+    #[tactic(auto, unfolding(crate::specs::NumberedTexts::number_of_text))]
     pub fn number(&self, text: &str) -> usize
-        ensures { result ≡ told_number self.now text.now }
+        ensures { result ≡ number_of_text self.now text.now }
     {
         self.numbers.number(text)
     }
@@ -53,12 +53,12 @@ impl<'a> LinkedTexts<'a> {
 }
 
 impl Linked {
-    ghost use Rattle.linker.specs.NumberedTexts.{AreTold};
+    ghost use Rattle.linker.specs.NumberedTexts.{AreNumberedTexts};
 
     /// The URIs of the documents' resources, the `$id`s of their roots and the names of their dynamic anchors, by number. The
     /// only error is want of memory.
     pub fn texts(&self, alloc: Global) -> Result<LinkedTexts<'_>, AllocError>
-        ensures { IfOk result (AreTold self.now) }
+        ensures { IfOk result (AreNumberedTexts self.now) }
     {
         let mut texts = texts_of(alloc, &self.documents)?;
         add_names(&mut texts, &self.dynamic_resources)?;

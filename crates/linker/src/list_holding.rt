@@ -15,7 +15,11 @@ use std::rc::Rc;
 impl Source for ListSource {
     ghost documents = { listed_documents };
 
-    fn holding(&mut self, alloc: Global, resource: &str) -> Result<Option<Rc<Compiled>>, AllocError> {
+    fn holding(
+        &mut self,
+        alloc: Global,
+        resource: &str,
+    ) -> Result<Option<Rc<Compiled>>, AllocError> {
         holding(self, resource)
     }
 
@@ -25,7 +29,11 @@ impl Source for ListSource {
 impl Source for &ListSource {
     ghost documents = { λ s. listed_documents s.now };
 
-    fn holding(&mut self, alloc: Global, resource: &str) -> Result<Option<Rc<Compiled>>, AllocError> {
+    fn holding(
+        &mut self,
+        alloc: Global,
+        resource: &str,
+    ) -> Result<Option<Rc<Compiled>>, AllocError> {
         holding(self, resource)
     }
 

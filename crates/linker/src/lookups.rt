@@ -144,7 +144,11 @@ impl Linked {
     }
 
     // What an absolute reference names first.
-    fn named_by(&self, alloc: Global, named: &AbsoluteReference) -> Result<Option<Named<'_>>, AllocError>
+    fn named_by(
+        &self,
+        alloc: Global,
+        named: &AbsoluteReference,
+    ) -> Result<Option<Named<'_>>, AllocError>
         ensures { (text : Text) → IsReadAs text (Some named.now)
             → IfOk result (IsNamedBy (linked_schemas self.now) text) }
     {

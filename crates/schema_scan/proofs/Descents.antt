@@ -22,7 +22,7 @@ use Rattle.definition_laws.proofs.Roots.{elements_nest, members_nest}
 use Rattle.keywords.specs.Shapes.{shape_view}
 use Rattle.keywords.specs.declared.shape.Shape as asked
 use Rattle.keywords.specs.declared.shape.Shape.TheVariants.{OneSchema, SchemaList, SchemaMap}
-use Rattle.schema_scan.specs.Descents.{led_schema, LeadsNowhere, StepsTo, schema_shape, row, name_of, IsHeld}
+use Rattle.schema_scan.specs.Descents.{pointed_schema, LeadsNowhere, StepsTo, schema_shape, row, name_of, IsHeld}
 use Rattle.schema_scan.proofs.Lookups.{look, prefixed, keyed, look_keyed-none, look_keyed-some, look_keyed-empty}
 use Rattle.schema_scan.proofs.Levels.{within_behind, within_levels}
 
@@ -147,13 +147,13 @@ held_nests : (v w : Value) (k : Text) → IsHeld v k w → nesting w < nesting v
 held_nests v w k h = members_nest v k w (row-in name_of k (members v) (k, w) h.found)
 
 at_shape : (k : Text) (rest : Pointer) (s : Schema) (w : Value) (shape : Shape) → IsHeld s.value k w → shape_in keywords k ≡ shape
-    → led_schema (k ∷ rest) s ≡ look rest (inner (nesting s.value) s k w shape)
-unfolding led_schema
+    → pointed_schema (k ∷ rest) s ≡ look rest (inner (nesting s.value) s k w shape)
+unfolding pointed_schema
 at_shape k rest s w shape h e = at_member k rest s w h.ordered h.found ∙ ap (λ x. look rest (inner (nesting s.value) s k w x)) e
 
 further_led : (rest : Pointer) (s : Schema) (way : Pointer) (u : Value) → nesting u < nesting s.value
-    → look rest (schemas_within keywords (nesting s.value) [] (below s way u)) ≡ led_schema rest (below s way u)
-unfolding led_schema
+    → look rest (schemas_within keywords (nesting s.value) [] (below s way u)) ≡ pointed_schema rest (below s way u)
+unfolding pointed_schema
 further_led rest s way u h = further rest s way u h
 
 held_stands : (s : Schema) (k : Text) (w : Value) (shape : Shape) (rest : Pointer) (part : Value) → IsHeld s.value k w → shape_in keywords k ≡ shape → IsIn (rest, part) (places w shape)
@@ -216,7 +216,7 @@ to_entry k t rest v w u h e at = record {
 
 -- ---- nowhere
 pub from_no_member : (k : Text) (rest : Pointer) (v : Value) → row name_of k (members v) ≡ None → LeadsNowhere (k ∷ rest) v
-unfolding led_schema
+unfolding pointed_schema
 from_no_member k rest v h s is =
     looked k rest s
     ∙ look_keyed-none (λ (m : Text × Value). m.0) (λ m. inner (nesting s.value) s m.0 m.1 (shape_in keywords m.0)) k rest (members s.value) (ap (λ x. row name_of k (members x)) is ∙ h)
@@ -268,9 +268,9 @@ holds_none SchemaList one all each = absurd (all refl)
 holds_none SchemaMap one all each = absurd (each refl)
 holds_none _ one all each = refl
 
-pub led_here : (s : Schema) → led_schema [] s ≡ Some s
-unfolding led_schema
-led_here s = refl
+pub pointed_here : (s : Schema) → pointed_schema [] s ≡ Some s
+unfolding pointed_schema
+pointed_here s = refl
 
 pub shorter : {A B : Type 0} (f : A → Text) (g : B → Text) (k t : Text) (ts : Pointer) (xs : List A) (ys : List B) → k ∷ map f xs ≡ (t ∷ ts) ++ map g ys → length ys ≤ length xs
 shorter f g k t ts xs ys e =

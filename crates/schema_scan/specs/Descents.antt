@@ -9,19 +9,19 @@ use Rattle.definitions.specs.Targets.{schema_at_pointer}
 use Rattle.json_doc.specs.Members.{HasNamesInOrder}
 
 -- what the pointer leads to from the schema
-unfoldable pub led_schema : Pointer → Schema → Option Schema
-led_schema way s = schema_at_pointer way s
+unfoldable pub pointed_schema : Pointer → Schema → Option Schema
+pointed_schema way s = schema_at_pointer way s
 
 -- from a schema of this value the pointer leads nowhere
 abbrev pub LeadsNowhere : Pointer → Value → Type 0
-LeadsNowhere way v = (s : Schema) → s.value ≡ v → led_schema way s ≡ None
+LeadsNowhere way v = (s : Schema) → s.value ≡ v → pointed_schema way s ≡ None
 
 -- from a schema of this value the pointer leads first by these tokens to one directly below, of that value, and then where
 -- the rest leads
 pub record StepsTo (way : Pointer) (v : Value) (tokens : Pointer) (part : Value) (rest : Pointer) : Type 0 where
   pub begins : way ≡ tokens ++ rest
   pub stands : (s : Schema) → s.value ≡ v → Contains (subschemas_by keywords s) (tokens, below s tokens part)
-  pub leads : (s : Schema) → s.value ≡ v → led_schema way s ≡ led_schema rest (below s tokens part)
+  pub leads : (s : Schema) → s.value ≡ v → pointed_schema way s ≡ pointed_schema rest (below s tokens part)
 
 -- the shape, if schemas stand in a value of it
 abbrev pub schema_shape : Shape → Option Shape

@@ -329,7 +329,7 @@ impl Compiled {
             (resource_root (compiled_schemas self.now) uri.now)) }
     {
         match self.resource_root(alloc, uri) {
-            Some(root) => self.led(alloc, root, pointer.tokens()),
+            Some(root) => self.at_pointer(alloc, root, pointer.tokens()),
             None => Ok(None),
         }
     }

@@ -6,7 +6,7 @@ ghost use Rattle.definitions.specs.Lists.{option_list};
 ghost use Rattle.json_doc.specs.Docs.{value};
 ghost use Rattle.locations.specs.Steps.{tokens};
 ghost use Rattle.schema_scan.specs.DescentViews.{tokens_taken};
-ghost use Rattle.schema_scan.specs.Descents.{led_schema};
+ghost use Rattle.schema_scan.specs.Descents.{pointed_schema};
 ghost use Rattle.schema_scan.specs.Locateds.{located_view};
 
 use crate::compiled::Compiled;
@@ -26,7 +26,7 @@ impl Compiled {
     /// an `$id` opens a resource, and the steps begin anew there.
     ///
     /// The time grows with the pointer's tokens and with the members of each object on the way.
-    pub(crate) fn led<'a>(
+    pub(crate) fn at_pointer<'a>(
         &'a self,
         alloc: Global,
         from: Located<'a>,
@@ -35,7 +35,7 @@ impl Compiled {
         requires { Contains (compiled_schemas self.now) (located_view from) }
         ensures { IfOk result
             (λ t. option_map located_view t
-            ≡ led_schema (map string_bytes tokens.now) (located_view from.entry)) }
+            ≡ pointed_schema (map string_bytes tokens.now) (located_view from.entry)) }
     {
         let mut here = from;
         let mut left = tokens;

@@ -58,21 +58,21 @@ module _ (k : Shared) where
     pub found : lookup_entry test es ≡ Some entry
     pub is_value : entry.1 ≡ c
     pub is_key : entry.0.value ≡ k.value
-    pub made : IsMadeBy entry.0.value entry.1.value
+    pub compiled : IsMadeBy entry.0.value entry.1.value
 
   stands_at : (b : Bool) (e : Entry) (es : List Entry) (c : Kept) → test e.0 ≡ b → IsMadeBy e.0.value e.1.value
       → (lookup test es ≡ Some c → Stands es c) → cond b (Some e.1) (lookup test es) ≡ Some c → Stands (e ∷ es) c
-  stands_at true e es c is m later eq = record { entry = e; found = rw is refl; is_value = same_Some _ _ eq; is_key = one_key _ _ is; made = m }
+  stands_at true e es c is m later eq = record { entry = e; found = rw is refl; is_value = same_Some _ _ eq; is_key = one_key _ _ is; compiled = m }
   stands_at false e es c is m later eq =
       let s = later eq in
-      record { entry = s.entry; found = rw is s.found; is_value = s.is_value; is_key = s.is_key; made = s.made }
+      record { entry = s.entry; found = rw is s.found; is_value = s.is_value; is_key = s.is_key; compiled = s.compiled }
 
   pub stands : (es : List Entry) (c : Kept) → AreMade es → lookup test es ≡ Some c → Stands es c
   stands [] c h eq = absurd (none-some _ eq)
   stands (e ∷ es) c h eq = stands_at (test e.0) e es c refl h.0 (stands es c h.1) eq
 
   pub made_by : (es : List Entry) (c : Kept) → Stands es c → IsMadeBy k.value c.value
-  made_by es c s = subst (λ (j : CacheKey). IsMadeBy j c.value) s.is_key (subst (λ (r : Kept). IsMadeBy s.entry.0.value r.value) s.is_value s.made)
+  made_by es c s = subst (λ (j : CacheKey). IsMadeBy j c.value) s.is_key (subst (λ (r : Kept). IsMadeBy s.entry.0.value r.value) s.is_value s.compiled)
 
   made_at : (b : Bool) (e : Entry) (es rest : List Entry) → IsMadeBy e.0.value e.1.value → AreMade es → AreMade rest → AreMade (cond b es (e ∷ rest))
   made_at true e es rest m h r = h

@@ -37,14 +37,14 @@ pub one_value : (t : Text) (v w : Value) → is_read_as t v ≡ true → parsed_
 one_value t v w h e = same_Ok (sym e ∙ read_as t v h)
 
 -- ---- of the value that a key's text is read as, where the document d is made by the key
-module _ (key : CacheKey) (v : Value) (c d : Compiled) (same : d ≡ c) (made : IsMadeBy key c) (reads : is_read_as key.1 v ≡ true) where
+module _ (key : CacheKey) (v : Value) (c d : Compiled) (same : d ≡ c) (compiled : IsMadeBy key c) (reads : is_read_as key.1 v ≡ true) where
   pub sound_as : scan_fault (compiled_base d) (compiled_value d) ≡ None → scan_fault key.0 v ≡ None
   sound_as h =
       let own : scan_fault (compiled_base c) (compiled_value c) ≡ None = subst (λ (x : Compiled). scan_fault (compiled_base x) (compiled_value x) ≡ None) same h in
-      let based : scan_fault key.0 (compiled_value c) ≡ None = subst (λ (b : Text). scan_fault b (compiled_value c) ≡ None) made.0 own in
-      subst (λ (w : Value). scan_fault key.0 w ≡ None) (one_value key.1 v (compiled_value c) reads made.1) based
+      let based : scan_fault key.0 (compiled_value c) ≡ None = subst (λ (b : Text). scan_fault b (compiled_value c) ≡ None) compiled.0 own in
+      subst (λ (w : Value). scan_fault key.0 w ≡ None) (one_value key.1 v (compiled_value c) reads compiled.1) based
 
   pub regular_as : is_regular regular_search (compiled_value d) ≡ true → is_regular regular_search v ≡ true
   regular_as h =
       let own : is_regular regular_search (compiled_value c) ≡ true = subst (λ (x : Compiled). is_regular regular_search (compiled_value x) ≡ true) same h in
-      subst (λ (w : Value). is_regular regular_search w ≡ true) (one_value key.1 v (compiled_value c) reads made.1) own
+      subst (λ (w : Value). is_regular regular_search w ≡ true) (one_value key.1 v (compiled_value c) reads compiled.1) own

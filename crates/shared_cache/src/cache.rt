@@ -231,9 +231,9 @@ impl Cache {
         ensures kept { OnOk result (IsUsed self.old key.now.value self.new) }
         ensures refused { OnErr result (self.new ≡ self.old) }
     {
-        let made = compiled_anew(alloc, &split(key.base()), document)?;
-        self.keep(key, &made);
-        Ok(made)
+        let compiled = compiled_anew(alloc, &split(key.base()), document)?;
+        self.keep(key, &compiled);
+        Ok(compiled)
     }
 
     // The document that is kept under this key, which is now the most recently used.
@@ -258,17 +258,17 @@ impl Cache {
     }
 
     // Keeps a document under a key that is new, where memory suffices.
-    fn keep(&mut self, key: &Rc<Key>, made: &Rc<Compiled>)
+    fn keep(&mut self, key: &Rc<Key>, compiled: &Rc<Compiled>)
         requires new { has_key self.old key.now.value ≡ false }
-        requires made { IsMadeBy key.now.value made.now.value }
+        requires compiled { IsMadeBy key.now.value compiled.now.value }
         ensures { IsUsed self.old key.now.value self.new }
     {
         // The number shows that there may be some.
         let _ = self.entries.len();
         let key_copy: Result<_, _> = key.clone();
-        let made_copy: Result<_, _> = made.clone();
-        if let (Ok(key), Ok(made)) = (key_copy, made_copy) {
-            let _ = self.entries.put(key, made);
+        let compiled_copy: Result<_, _> = compiled.clone();
+        if let (Ok(key), Ok(compiled)) = (key_copy, compiled_copy) {
+            let _ = self.entries.put(key, compiled);
         }
     }
 }

@@ -4,8 +4,9 @@ ghost use Rattle.std.specs.Prelude.{◌≡◌};
 ghost use Rattle.sockets.specs.Table.{StaysDue, KeepsClients};
 
 use crate::rest::Resting;
-use crate::sockets::{INPUT, LISTENER, Sockets, TICK};
+use crate::sockets::{INPUT, LISTENER, Sockets};
 use crate::table::Table;
+use crate::tuning::TICK;
 use mio::Events;
 use mio::event::Event;
 use std::io;

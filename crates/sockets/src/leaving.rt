@@ -4,8 +4,8 @@ ghost use Rattle.std.specs.Prelude.{◌≡◌, false};
 ghost use Rattle.sockets.specs.Socket.{is_open, is_queued};
 ghost use Rattle.sockets.specs.Table.{socket_at, client_at, StaysDue, KeepsClients, OthersStay};
 
-use crate::limits::MOST_READS;
 use crate::sockets::Sockets;
+use crate::tuning::MOST_READS;
 use network::Client;
 use std::io::{ErrorKind, Read};
 use std::net::Shutdown;

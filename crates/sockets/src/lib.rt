@@ -19,6 +19,7 @@ mod status;
 mod supply;
 mod table;
 mod telling;
+mod tuning;
 mod turns;
 
 pub use accepting::{bind, serve_connections};

@@ -2,9 +2,6 @@
 
 use std::time::Duration;
 
-/// How many reads of 4,096 bytes a client that is still sending has at most when its connection is over.
-pub(crate) const MOST_READS: u32 = 256;
-
 /// How long a connection on a socket may take.
 #[derive(Clone, Copy, Debug)]
 pub struct Limits {

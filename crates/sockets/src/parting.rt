@@ -1,7 +1,7 @@
 //! The end of a connection on a socket.
 
 use crate::limited::Limited;
-use crate::limits::MOST_READS;
+use crate::tuning::MOST_READS;
 use std::io::Read;
 use std::net::{Shutdown, TcpStream};
 use std::time::{Clock, Duration};

@@ -4,25 +4,10 @@ ghost use Rattle.std.specs.Prelude.{◌≡◌, ◌≢◌, ◌<◌, ◌≤◌, �
 ghost use Rattle.std.specs.Duration.{as_nanos};
 ghost use Rattle.std.specs.Time.{instant_nanos};
 
+use crate::tuning::{
+    LONGEST_REST, LONGEST_REST_OF_END, SHORT_TURN, TIMES_OF_END, TIMES_OF_LULL, TIMES_OF_TURN,
+};
 use std::time::{Duration, Instant};
-
-/// How long a turn takes at most that no rest follows, and the shortest lull that ends a rest behind one, in milliseconds.
-const SHORT: u64 = 1;
-
-/// How many times as long as its turn a connection rests.
-const TIMES: u32 = 200;
-
-/// How long a connection rests at most, in milliseconds.
-const LONGEST: u64 = 10_000;
-
-/// How many times as long as the lull that ends its rest a turn takes.
-const TIMES_OF_LULL: u32 = 10;
-
-/// How many times as long as the end of its round a connection rests that gave way.
-const TIMES_OF_END: u32 = 20;
-
-/// How long it rests at most, in milliseconds.
-const LONGEST_OF_END: u64 = 100;
 
 /// The rest of a connection behind a turn of its own, or an end of a round for its sake, that took long.
 #[derive(Clone, Copy, Debug)]
@@ -122,11 +107,11 @@ fn rest_behind(took: Duration) -> Option<Duration>
     ensures time { IfSome result (λ rest.
         as_nanos rest ≡ min (as_nanos took * 200) 10_000_000_000) }
 {
-    if took <= Duration::from_millis(SHORT) {
+    if took <= Duration::from_millis(SHORT_TURN) {
         return None;
     }
-    let times = took.saturating_mul(TIMES);
-    Some(times.min(Duration::from_millis(LONGEST)))
+    let times = took.saturating_mul(TIMES_OF_TURN);
+    Some(times.min(Duration::from_millis(LONGEST_REST)))
 }
 
 /// How long nobody else is ready where that ends the rest behind a turn that took so long: a tenth as long, a millisecond
@@ -135,7 +120,7 @@ fn lull_behind(took: Duration) -> Duration
     ensures { as_nanos result ≡ max (as_nanos took / 10) 1_000_000 }
 {
     let part = took / TIMES_OF_LULL;
-    part.max(Duration::from_millis(SHORT))
+    part.max(Duration::from_millis(SHORT_TURN))
 }
 
 /// How long a connection rests that gave way, where the end of its round took so long: twenty times as long, 100
@@ -144,5 +129,5 @@ fn rest_behind_end(took: Duration) -> Duration
     ensures { as_nanos result ≡ min (as_nanos took * 20) 100_000_000 }
 {
     let times = took.saturating_mul(TIMES_OF_END);
-    times.min(Duration::from_millis(LONGEST_OF_END))
+    times.min(Duration::from_millis(LONGEST_REST_OF_END))
 }

@@ -5,6 +5,7 @@ ghost use Rattle.std.specs.Prelude.{◌≡◌, [], IfOk};
 use crate::limits::Limits;
 use crate::rest::Resting;
 use crate::table::Table;
+use crate::tuning::{MOST_EVENTS, TICK};
 use crate::turns::Turn;
 use mio::net::TcpListener;
 use mio::unix::SourceFd;
@@ -19,12 +20,6 @@ use std::time::{Clock, Duration, Instant};
 pub(crate) const LISTENER: u64 = u64::MAX;
 
 pub(crate) const INPUT: u64 = u64::MAX - 1;
-
-/// How often all connections are looked at, in milliseconds.
-pub(crate) const TICK: u64 = 500;
-
-/// How many events the system tells at once.
-const MOST_EVENTS: usize = 1024;
 
 /// Many connections on sockets, under the numbers 0, 1, 2, .., in the order in which they were accepted.
 #[derive(Drop)]

@@ -5,7 +5,8 @@ ghost use Rattle.sockets.specs.Socket.{is_queued};
 ghost use Rattle.network.specs.Clients.{failed};
 ghost use Rattle.sockets.specs.Table.{socket_at, client_at, OthersStay, IsDue, StaysDue, StaysDueBut, KeepsClients, KeepsClientsBut};
 
-use crate::sockets::{Sockets, TICK};
+use crate::sockets::Sockets;
+use crate::tuning::TICK;
 use network::{Client, Occasion};
 use std::time::{Clock, Duration};
 

@@ -97,7 +97,7 @@ only_written claims now key uri s same writes u h = at (same_text key u) refl
 pub only_made : (claims now : BTreeMap (String Global) (Rc Stored Global)) (f : Text → Text → Text) (us : List Text) → ((u : Text) → claim_of now u ≡ option_map (f u) (claim_of claims u)) → (before : BTreeMap (String Global) (Rc Stored Global))
     → ClaimsOnly before us claims → ClaimsOnly before us now
 unfolding ClaimsOnly
-only_made claims now f us made before only u h = only u (was (claim_of claims u) (sym (ap is_some (made u)) ∙ h))
+only_made claims now f us new_claims before only u h = only u (was (claim_of claims u) (sym (ap is_some (new_claims u)) ∙ h))
   where
     was : (o : Option Text) → is_some (option_map (f u) o) ≡ true → is_some o ≡ true
     was None e = e
@@ -112,7 +112,7 @@ only_next a b c ps i p uri l is same first next u h =
     elim (next u h) [
       | inl was ↦ elim (first u was) [
         | inl before ↦ inl before
-        | inr made ↦ inr (subst (λ us. Contains us u) (sym more) (Contains-append_left (map key (take i ps)) (string_bytes p.0 ∷ []) u made))
+        | inr new_claims ↦ inr (subst (λ us. Contains us u) (sym more) (Contains-append_left (map key (take i ps)) (string_bytes p.0 ∷ []) u new_claims))
       ]
       | inr own ↦ inr (subst (λ us. Contains us u) (sym more) (Contains-append_right (map key (take i ps)) (string_bytes p.0 ∷ []) u (subst (λ t. Contains (t ∷ []) u) same own)))
     ]
@@ -123,6 +123,6 @@ only_part a b ps i only u h =
     let key : String Global × Rc Stored Global → Text = λ q. string_bytes q.0 in
     elim (only u h) [
       | inl was ↦ inl was
-      | inr made ↦ inr (subst (λ us. Contains us u) (sym (map-append key (take i ps) (drop i ps)) ∙ ap (map key) (take-append-drop i ps))
-          (Contains-append_left (map key (take i ps)) (map key (drop i ps)) u made))
+      | inr new_claims ↦ inr (subst (λ us. Contains us u) (sym (map-append key (take i ps) (drop i ps)) ∙ ap (map key) (take-append-drop i ps))
+          (Contains-append_left (map key (take i ps)) (map key (drop i ps)) u new_claims))
     ]

@@ -111,14 +111,14 @@ claims_put : (claims now : BTreeMap (String Global) (Rc Stored Global)) (es ds a
     → ((x : Document) → Contains after x → Contains es x ⊎ Contains ds x) → ((e : Document) → Contains es e → Contains after e)
     → has_repeat same_text (resource_uris_of after) ≡ false → AreClaimed now after
 unfolding AreClaimed
-claims_put claims now es ds after claimed there made from within distinct x k u h =
+claims_put claims now es ds after claimed there new_claims from within distinct x k u h =
     let own : (t : Text) → Contains (claims_of es) (u, t) → t ≡ x.canonical =
     λ t i. let by = from_claims es u t i in by.1.1.1 ∙ ap (λ (d : Document). d.canonical) (one_document after u by.0 x distinct (within by.0 by.1.0) k by.1.1.0 h) in
     elim (from x k) [
       | inl e ↦
           let i = in_claims es x u e h in
-          made u ∙ some_claim (claim_of claims u) (there u x.canonical i) (λ before. last_there u x.canonical (claims_of es) before own i)
-      | inr d ↦ made u ∙ ap (option_map (last_claim u (claims_of es))) (claimed x d u h) ∙ ap Some (last_same u x.canonical (claims_of es) x.canonical own refl)
+          new_claims u ∙ some_claim (claim_of claims u) (there u x.canonical i) (λ before. last_there u x.canonical (claims_of es) before own i)
+      | inr d ↦ new_claims u ∙ ap (option_map (last_claim u (claims_of es))) (claimed x d u h) ∙ ap Some (last_same u x.canonical (claims_of es) x.canonical own refl)
     ]
   where
     some_claim : (o : Option Text) → is_some o ≡ true → ((before : Text) → last_claim u (claims_of es) before ≡ x.canonical) → option_map (last_claim u (claims_of es)) o ≡ Some x.canonical
@@ -142,10 +142,10 @@ pub claimed_after : (claims now : BTreeMap (String Global) (Rc Stored Global)) (
     → has_repeat same_text (canonicals es) ≡ false → has_repeat same_text (resource_uris_of after) ≡ false → AreClaimed claims ds
     → ((u c : Text) → Contains ps (u, c) → is_some (claim_of claims u) ≡ true)
     → ((u : Text) → claim_of now u ≡ option_map (last_claim u ps) (claim_of claims u)) → AreClaimed now after
-claimed_after claims now es ds after ps same put once distinct claimed there made =
+claimed_after claims now es ds after ps same put once distinct claimed there new_claims =
     claims_put claims now es ds after claimed
     (λ u c k. there u c (subst (λ qs. Contains qs (u, c)) (sym same) k))
-    (λ u. made u ∙ ap (λ qs. option_map (last_claim u qs) (claim_of claims u)) same)
+    (λ u. new_claims u ∙ ap (λ qs. option_map (last_claim u qs) (claim_of claims u)) same)
     (λ x k. from_all es ds x (subst (λ xs. Contains xs x) put k))
     (λ e k. subst (λ xs. Contains xs e) (sym put) (each_placed es ds once e k))
     distinct

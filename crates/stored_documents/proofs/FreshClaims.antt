@@ -117,7 +117,7 @@ given_up before mid after us same only released u s =
     let r = released u s in
     elim (only u r.0.0) [
       | inl was ↦ (was, sym (ap (find (holds_resource u)) same) ∙ r.0.1)
-      | inr made ↦ absurd (r.1 made)
+      | inr new_claims ↦ absurd (r.1 new_claims)
     ]
 
 -- ---- documents were put
@@ -136,8 +136,8 @@ put_fresh before mid after es us vs placed once only own replaced released u s =
         found_none (holds_resource u) (documents_in before) (λ x k. false_from_ne_true (holds_resource u x) (λ h.
             at x k h none (λ gone. r.1 gone) (list_any (λ (e : Document). same_text e.canonical x.canonical) es) refl)),
       )
-      | inr made ↦
-          let by : (e : Document) × (Contains es e × Contains (resources_of e) u) = from_flat_map resources_of u es (own u made) in
+      | inr new_claims ↦
+          let by : (e : Document) × (Contains es e × Contains (resources_of e) u) = from_flat_map resources_of u es (own u new_claims) in
           absurd (unheld (documents_with_all es (documents_in before)) u by.0 none (each_placed es (documents_in before) once by.0 by.1.0)
           (opened_is_root (schemas_of by.0.base by.0.value) u u by.1.1 ((bytes_decides u u).1 refl)))
     ]
@@ -209,7 +209,7 @@ with_claim (p ∷ ps) u k =
     ]
 
 pub own_uris : (ps : List (String Global × Rc Stored Global)) (es : List Document) → claims_in ps ≡ claims_of es → (u : Text) → Contains (claimed_uris ps) u → Contains (resource_uris_of es) u
-own_uris ps es made u k =
+own_uris ps es new_claims u k =
     let claim : (t : Text) × Contains (claims_in ps) (u, t) = with_claim ps u k in
-    let by = from_claims es u claim.0 (subst (λ qs. Contains qs (u, claim.0)) made claim.1) in
+    let by = from_claims es u claim.0 (subst (λ qs. Contains qs (u, claim.0)) new_claims claim.1) in
     in_flat_map resources_of by.0 u es by.1.0 (root_opens (schemas_of by.0.base by.0.value) u by.1.1.0)

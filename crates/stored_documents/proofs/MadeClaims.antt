@@ -77,6 +77,6 @@ claims_of_taken ss i s l e =
     ap claims_of (map-take_more (λ (x : Rc Stored Global). stored_view x.value) ss i s l e)
     ∙ claims_of_more (map (λ (x : Rc Stored Global). stored_view x.value) (take i ss)) (stored_view s.value)
 
-pub claims_made : (before made : List (String Global × Rc Stored Global)) (d : Document) → before ≡ [] → claims_in made ≡ claims_in before ++ own_claims d → claims_in made ≡ claims_of (d ∷ [])
+pub claims_made : (before new_claims : List (String Global × Rc Stored Global)) (d : Document) → before ≡ [] → claims_in new_claims ≡ claims_in before ++ own_claims d → claims_in new_claims ≡ claims_of (d ∷ [])
 unfolding claims_in
-claims_made before made d none e = e ∙ ap (λ ps. claims_in ps ++ own_claims d) none ∙ sym (claims_of_one d)
+claims_made before new_claims d none e = e ∙ ap (λ ps. claims_in ps ++ own_claims d) none ∙ sym (claims_of_one d)

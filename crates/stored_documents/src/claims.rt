@@ -16,44 +16,44 @@ pub(crate) fn claims_to_make(
     alloc: Global,
     documents: &[Rc<Stored>],
 ) -> Result<Vec<(String, Rc<Stored>)>, AllocError>
-    ensures { IfOk result (λ made. claims_in made.items
+    ensures { IfOk result (λ new_claims. claims_in new_claims.items
         ≡ claims_of (stored_documents documents.now)) }
 {
-    let mut made = Vec::new(alloc);
+    let mut new_claims = Vec::new(alloc);
     for document in documents {
-        push_claims(alloc, &mut made, document)?;
+        push_claims(alloc, &mut new_claims, document)?;
     }
-    Ok(made)
+    Ok(new_claims)
 }
 
 // Appends the claims of a document.
 pub(crate) fn push_claims(
     alloc: Global,
-    made: &mut Vec<(String, Rc<Stored>)>,
+    new_claims: &mut Vec<(String, Rc<Stored>)>,
     document: &Rc<Stored>,
 ) -> Result<(), AllocError>
-    ensures { OnOk result (claims_in made.new.items
-        ≡ claims_in made.old.items ++ own_claims (stored_view document.now.value)) }
+    ensures { OnOk result (claims_in new_claims.new.items
+        ≡ claims_in new_claims.old.items ++ own_claims (stored_view document.now.value)) }
 {
     for uri in document.resource_uris() {
-        push_claim(alloc, made, uri.as_str(), document)?;
+        push_claim(alloc, new_claims, uri.as_str(), document)?;
     }
     Ok(())
 }
 
 fn push_claim(
     alloc: Global,
-    made: &mut Vec<(String, Rc<Stored>)>,
+    new_claims: &mut Vec<(String, Rc<Stored>)>,
     uri: &str,
     document: &Rc<Stored>,
 ) -> Result<(), AllocError>
-    ensures { OnOk result (claims_in made.new.items
-        ≡ claims_in made.old.items
+    ensures { OnOk result (claims_in new_claims.new.items
+        ≡ claims_in new_claims.old.items
         ++ (uri.now, (stored_view document.now.value).canonical) ∷ []) }
 {
     let own_uri = uri.to_owned(alloc)?;
     let own_document = document.clone()?;
-    made.push((own_uri, own_document))?;
+    new_claims.push((own_uri, own_document))?;
     Ok(())
 }
 
@@ -61,16 +61,16 @@ fn push_claim(
 pub(crate) fn claim_unclaimed(
     alloc: Global,
     claims: &mut BTreeMap<String, Rc<Stored>>,
-    made: &[(String, Rc<Stored>)],
+    new_claims: &[(String, Rc<Stored>)],
 ) -> Result<(), AllocError>
     ensures kept { (uri claim : Text) → claim_of claims.old uri ≡ Some claim
         → claim_of claims.new uri ≡ Some claim }
     ensures claimed { OnOk result
-        ((uri claim : Text) → Contains (claims_in made.now) (uri, claim)
+        ((uri claim : Text) → Contains (claims_in new_claims.now) (uri, claim)
         → is_some (claim_of claims.new uri) ≡ true) }
-    ensures only { ClaimsOnly claims.old (claimed_uris made.now) claims.new }
+    ensures only { ClaimsOnly claims.old (claimed_uris new_claims.now) claims.new }
 {
-    for claim in made {
+    for claim in new_claims {
         claim_where_none(alloc, claims, claim.0.as_str(), &claim.1)?;
     }
     Ok(())
@@ -98,12 +98,12 @@ fn claim_where_none(
 // Makes the claims whose URIs are claimed, in place of the claims that stand there. This takes no memory.
 pub(crate) fn make_claims(
     claims: &mut BTreeMap<String, Rc<Stored>>,
-    made: Vec<(String, Rc<Stored>)>,
+    new_claims: Vec<(String, Rc<Stored>)>,
 )
     ensures { (uri : Text) → claim_of claims.new uri
-        ≡ option_map (last_claim uri (claims_in made.items)) (claim_of claims.old uri) }
+        ≡ option_map (last_claim uri (claims_in new_claims.items)) (claim_of claims.old uri) }
 {
-    for claim in made {
+    for claim in new_claims {
         make_claim(claims, claim.0, claim.1);
     }
 }

@@ -124,12 +124,12 @@ impl Documents {
         ensures err { IfErr result (λ f. f ≡ Fault.NoRoom) }
         ensures fresh { StaysFresh self.old self.new }
     {
-        let mut made = Vec::new(alloc);
-        push_claims(alloc, &mut made, &document)?;
-        self.claim(alloc, &made)?;
+        let mut new_claims = Vec::new(alloc);
+        push_claims(alloc, &mut new_claims, &document)?;
+        self.claim(alloc, &new_claims)?;
         match self.ordered.insert(document) {
             Ok(replaced) => {
-                make_claims(&mut self.claims, made);
+                make_claims(&mut self.claims, new_claims);
                 match replaced {
                     Some(replaced) => {
                         self.release_document(&replaced);
@@ -139,7 +139,7 @@ impl Documents {
                 }
             }
             Err(fault) => {
-                self.release_made(&made);
+                self.release_new_claims(&new_claims);
                 Err(fault)
             }
         }
@@ -163,16 +163,16 @@ impl Documents {
         ensures fresh { StaysFresh self.old self.new }
     {
         let replaced = self.standing(alloc, &documents)?;
-        let made = claims_to_make(alloc, &documents)?;
-        self.claim(alloc, &made)?;
+        let new_claims = claims_to_make(alloc, &documents)?;
+        self.claim(alloc, &new_claims)?;
         match self.ordered.insert_all(documents) {
             Ok(()) => {
-                make_claims(&mut self.claims, made);
+                make_claims(&mut self.claims, new_claims);
                 self.release_documents(&replaced);
                 Ok(())
             }
             Err(fault) => {
-                self.release_made(&made);
+                self.release_new_claims(&new_claims);
                 Err(fault)
             }
         }

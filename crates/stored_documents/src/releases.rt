@@ -21,20 +21,20 @@ impl Documents {
     pub(crate) fn claim(
         &mut self,
         alloc: Global,
-        made: &[(String, Rc<Stored>)],
+        new_claims: &[(String, Rc<Stored>)],
     ) -> Result<(), AllocError>
         ensures same { documents_in self.new ≡ documents_in self.old }
         ensures claimed { OnOk result
-            ((uri claim : Text) → Contains (claims_in made.now) (uri, claim)
+            ((uri claim : Text) → Contains (claims_in new_claims.now) (uri, claim)
             → is_some (claim_of self.new.claims uri) ≡ true) }
         ensures only { OnOk result
-            (ClaimsOnly self.old.claims (claimed_uris made.now) self.new.claims) }
+            (ClaimsOnly self.old.claims (claimed_uris new_claims.now) self.new.claims) }
         ensures fresh { OnErr result (StaysFresh self.old self.new) }
     {
-        match claim_unclaimed(alloc, &mut self.claims, made) {
+        match claim_unclaimed(alloc, &mut self.claims, new_claims) {
             Ok(()) => Ok(()),
             Err(fault) => {
-                self.release_made(made);
+                self.release_new_claims(new_claims);
                 Err(fault)
             }
         }
@@ -60,11 +60,11 @@ impl Documents {
     }
 
     // Releases claims that nobody has a resource for.
-    pub(crate) fn release_made(&mut self, made: &[(String, Rc<Stored>)])
+    pub(crate) fn release_new_claims(&mut self, new_claims: &[(String, Rc<Stored>)])
         ensures same { documents_in self.new ≡ documents_in self.old }
-        ensures released { Releases self.old (claimed_uris made.now) self.new }
+        ensures released { Releases self.old (claimed_uris new_claims.now) self.new }
     {
-        for claim in made {
+        for claim in new_claims {
             self.release(claim.0.as_str());
         }
     }

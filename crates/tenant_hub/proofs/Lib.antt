@@ -6,7 +6,7 @@ mod KeptRegistries
 mod ServedBundles
 mod Refusals
 mod LinkedReplies
-mod KeptLinks
+mod CachedLinks
 mod NamedDocuments
 mod ValidationReplies
 mod BundleReplies

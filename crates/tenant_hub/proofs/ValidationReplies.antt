@@ -18,7 +18,7 @@ use Rattle.faults.specs.declared.Fault as code
 use Rattle.linker.specs.LinkFaults.{link_fault}
 use Rattle.linker.specs.LinkedDocuments.{linked_documents}
 use Rattle.linker.specs.declared.linked.Linked.{Linked}
-use Rattle.tenant_hub.specs.KeptLinks.{IsLinkOf}
+use Rattle.tenant_hub.specs.CachedLinks.{IsLinkOf}
 use Rattle.tenant_hub.specs.SourceReplies.{reply_by, validation_over}
 use Rattle.tenant_hub.proofs.LinkedReplies.{links, links_not}
 

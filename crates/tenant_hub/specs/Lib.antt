@@ -7,4 +7,4 @@ pub mod Isolation
 pub mod SourceReplies
 pub mod ServedBundles
 pub mod PutBack
-pub mod KeptLinks
+pub mod CachedLinks

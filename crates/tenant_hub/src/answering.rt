@@ -11,7 +11,7 @@ ghost use Rattle.definitions.specs.Values.{same_text};
 ghost use Rattle.linker.specs.ListedDocuments.{listed_documents};
 ghost use Rattle.requests.specs.Views.{request_view, reply_view};
 ghost use Rattle.tenants_file.specs.Tenants.{tenant_view};
-ghost use Rattle.tenant_hub.specs.KeptLinks.{AreLinksOf};
+ghost use Rattle.tenant_hub.specs.CachedLinks.{AreLinksOf};
 ghost use Rattle.tenant_hub.specs.RegisteredDocuments.{is_registered};
 ghost use Rattle.tenant_documents.specs.Registries.{registry_view};
 ghost use Rattle.tenant_documents.specs.StoredTexts.{stored_texts};

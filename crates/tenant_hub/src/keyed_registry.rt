@@ -4,7 +4,7 @@ ghost use Rattle.std.specs.Prelude.{◌≡◌, true};
 ghost use Rattle.std.specs.List.{list_all};
 ghost use Rattle.definitions.specs.Registries.{documents_seen};
 ghost use Rattle.tenant_documents.specs.Registries.{registry_view};
-ghost use Rattle.tenant_hub.specs.KeptLinks.{AreLinksOf, AreLinksOf-prop};
+ghost use Rattle.tenant_hub.specs.CachedLinks.{AreLinksOf, AreLinksOf-prop};
 ghost use Rattle.tenant_hub.specs.RegisteredDocuments.{is_registered};
 
 use crate::links::Links;

@@ -2,7 +2,7 @@
 
 ghost use Rattle.std.specs.Prelude.{IfOk, IfSome, List, string_bytes};
 ghost use Rattle.definitions.specs.Schemas.{Document};
-ghost use Rattle.tenant_hub.specs.KeptLinks.{AreLinksOf, IsLinkOfBase};
+ghost use Rattle.tenant_hub.specs.CachedLinks.{AreLinksOf, IsLinkOfBase};
 
 use linker::{Linked, documents};
 use lru::LruCache;

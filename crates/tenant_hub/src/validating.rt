@@ -9,7 +9,7 @@ ghost use Rattle.definitions.specs.Runs.{IsAnswer};
 ghost use Rattle.faults.specs.View.{fault_view};
 ghost use Rattle.json_doc.specs.Docs.{value};
 ghost use Rattle.requests.specs.Views.{reply_view};
-ghost use Rattle.tenant_hub.specs.KeptLinks.{AreLinksOf};
+ghost use Rattle.tenant_hub.specs.CachedLinks.{AreLinksOf};
 ghost use Rattle.tenant_hub.specs.SourceReplies.{reply_by, validation_over};
 
 use crate::links::Links;

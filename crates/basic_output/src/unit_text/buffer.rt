@@ -64,13 +64,13 @@ impl TextBuffer {
 
     /// Appends a text behind what leads it. The only error is want of memory, and then the text stays as it was.
     #[inline(always)]
-    pub(crate) fn push_led(&mut self, lead: &str, text: &str) -> Result<(), AllocError>
+    pub(crate) fn push_prefixed(&mut self, prefix: &str, text: &str) -> Result<(), AllocError>
         ensures { buffer_text self.new ≡ (if is_ok result
-            then buffer_text self.old ++ (lead.now ++ text.now)
+            then buffer_text self.old ++ (prefix.now ++ text.now)
             else buffer_text self.old) }
     {
-        self.make_room(lead.len() + text.len())?;
-        self.len = write_led(self.bytes.as_mut_slice(), self.len, lead, text);
+        self.make_room(prefix.len() + text.len())?;
+        self.len = write_prefixed(self.bytes.as_mut_slice(), self.len, prefix, text);
         Ok(())
     }
 
@@ -103,12 +103,12 @@ fn make_more_room(bytes: &mut Vec<u8>, end: usize) -> Result<(), AllocError>
 
 // Writes a text behind what leads it over the bytes from there on: the position behind it.
 #[inline(always)]
-fn write_led(bytes: &mut [u8], start: usize, lead: &str, text: &str) -> usize
-    requires { start + length lead.now + length text.now ≤ length bytes.old }
-    ensures written { IsWrittenOver start result (lead.now ++ text.now) bytes.old bytes.new }
+fn write_prefixed(bytes: &mut [u8], start: usize, prefix: &str, text: &str) -> usize
+    requires { start + length prefix.now + length text.now ≤ length bytes.old }
+    ensures written { IsWrittenOver start result (prefix.now ++ text.now) bytes.old bytes.new }
     ensures len { length bytes.new ≡ length bytes.old }
 {
-    let behind = write(bytes, start, lead);
+    let behind = write(bytes, start, prefix);
     write(bytes, behind, text)
 }
 

@@ -17,16 +17,16 @@ use std::simd::prelude::*;
 pub(crate) fn push_escaped(
     out: &mut TextBuffer,
     memory: &mut String,
-    lead: &str,
+    prefix: &str,
     text: &str,
 ) -> Result<(), AllocError>
     ensures { OnOk result (buffer_text out.new
-        ≡ buffer_text out.old ++ (lead.now ++ escape text.now)) }
+        ≡ buffer_text out.old ++ (prefix.now ++ escape text.now)) }
 {
     if are_unescaped(text.as_bytes()) {
-        return out.push_led(lead, text);
+        return out.push_prefixed(prefix, text);
     }
-    push_escapes(out, memory, lead, text)
+    push_escapes(out, memory, prefix, text)
 }
 
 // Appends a text that may need escapes, behind what leads it. Want of memory is the only error. Few texts come here.
@@ -34,14 +34,14 @@ pub(crate) fn push_escaped(
 fn push_escapes(
     out: &mut TextBuffer,
     memory: &mut String,
-    lead: &str,
+    prefix: &str,
     text: &str,
 ) -> Result<(), AllocError>
     ensures { OnOk result (buffer_text out.new
-        ≡ buffer_text out.old ++ (lead.now ++ escape text.now)) }
+        ≡ buffer_text out.old ++ (prefix.now ++ escape text.now)) }
 {
     write_string(memory, text)?;
-    out.push_led(lead, &memory.as_str()[1..memory.len() - 1])
+    out.push_prefixed(prefix, &memory.as_str()[1..memory.len() - 1])
 }
 
 // Writes the string, with its quotation marks, in place of what the memory has.

@@ -5,7 +5,7 @@ ghost use Rattle.std.specs.List.{list_all};
 ghost use Rattle.locations.specs.Steps.{token, tokens};
 ghost use Rattle.locations.specs.declared.step.Step.{Step};
 ghost use Rattle.basic_output.specs.Buffers.{buffer_text};
-ghost use Rattle.basic_output.specs.Notations.{IsPushed, kept_text, stands_in_pointer};
+ghost use Rattle.basic_output.specs.Notations.{IsPushed, escaped_text, stands_in_pointer};
 ghost use Rattle.basic_output.specs.Pieces.{is_plain};
 ghost use Rattle.basic_output.specs.declared.unit_text.step_texts.Notation.TheVariants as notation;
 
@@ -158,7 +158,7 @@ impl StepTexts {
         requires { AreSomeTexts self.now }
         ensures { (n : Notation) (ss : List Step) → AreStepTexts n self.now ss
             → length self.now.starts.items ≡ length ss
-            → result.now ≡ kept_text n (drop len (tokens ss)) }
+            → result.now ≡ escaped_text n (drop len (tokens ss)) }
     {
         if len < self.starts.len() {
             &self.as_str()[self.starts[len]..]
@@ -179,11 +179,12 @@ impl StepBuffer {
         match step {
             Step::Name(name) => self.push_name(notation, name),
             Step::Index(index) => {
-                self.text.push_led("/", itoa::Buffer::new().format(index))?;
+                self.text
+                    .push_prefixed("/", itoa::Buffer::new().format(index))?;
                 Ok(true)
             }
             Step::Keyword(keyword) => {
-                self.text.push_led("/", keyword.name())?;
+                self.text.push_prefixed("/", keyword.name())?;
                 Ok(true)
             }
         }
@@ -197,7 +198,7 @@ impl StepBuffer {
     {
         let mark = mark_of(name.as_bytes());
         if mark == b'0' {
-            self.text.push_led("/", name)?;
+            self.text.push_prefixed("/", name)?;
             return Ok(true);
         }
         self.push_other_name(notation, name, mark)?;
@@ -214,7 +215,7 @@ impl StepBuffer {
     ) -> Result<(), AllocError>
         requires { mark < 51 → list_all stands_in_pointer name.now ≡ true }
         ensures { OnOk result (buffer_text self.new.text
-            ≡ buffer_text self.old.text ++ kept_text notation (name.now ∷ [])) }
+            ≡ buffer_text self.old.text ++ escaped_text notation (name.now ∷ [])) }
     {
         self.token.clear();
         match notation {

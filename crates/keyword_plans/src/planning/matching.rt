@@ -12,11 +12,11 @@ ghost use Rattle.keyword_plans.specs.Applications.{ArePatternsOf, planned_matche
 ghost use Rattle.keyword_plans.specs.NumberedPatterns.{IsNumbered, numbered_view};
 ghost use Rattle.applicators.specs.Plans.{planned_view};
 ghost use Rattle.keyword_plans.specs.SearchedIn.{searched_in};
-ghost use Rattle.keyword_plans.specs.Sites.{Shows};
+ghost use Rattle.keyword_plans.specs.ObjectApplications.{Shows};
 
+use crate::application::ObjectApplication;
 use crate::numbered_pattern::{NumberedPattern, push_numbered};
 use crate::searches::Searches;
-use crate::site::Site;
 use applicators::{Part, Planned, Subject, Way, members_of};
 use json_doc::{Doc, Members, Name};
 use std::alloc::AllocError;
@@ -25,20 +25,26 @@ use std::alloc::AllocError;
 pub(crate) fn plan_patterns<'a>(
     planned: &mut Vec<Planned<'a>>,
     searches: &mut Searches<'a>,
-    site: &Site<'a>,
+    application: &ObjectApplication<'a>,
     schemas: &'a Doc,
 ) -> Result<(), AllocError>
     requires { planned.old.items ≡ [] }
-    ensures ok { (a : Application) (k : Text) → Shows site.now a
-        → searched_in searches.old ≡ site.now.linked
+    ensures ok { (a : Application) (k : Text) → Shows application.now a
+        → searched_in searches.old ≡ application.now.linked
         → get (codes "patternProperties") a.schema.value ≡ Some (value schemas.now)
         → OnOk result (map (planned_view k a) planned.new.items
         ≡ planned_pattern k a (members (value schemas.now)) (members a.instance)) }
     ensures searched { searched_in searches.new ≡ searched_in searches.old }
 {
     match members_of(schemas) {
-        Some(patterns) => match site.subject.members() {
-            Some(members) => plan_matched(planned, searches, site.resource, patterns, members),
+        Some(patterns) => match application.subject.members() {
+            Some(members) => plan_matched(
+                planned,
+                searches,
+                application.resource,
+                patterns,
+                members,
+            ),
             None => Ok(()),
         },
         None => Ok(()),

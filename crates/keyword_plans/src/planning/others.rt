@@ -16,12 +16,12 @@ ghost use Rattle.keywords.specs.Rows.{row_of};
 ghost use Rattle.keyword_plans.specs.NumberedPatterns.{IsNumbered, numbered_view};
 ghost use Rattle.applicators.specs.Plans.{planned_view};
 ghost use Rattle.keyword_plans.specs.SearchedIn.{searched_in};
-ghost use Rattle.keyword_plans.specs.Sites.{Shows, linked_rules};
+ghost use Rattle.keyword_plans.specs.ObjectApplications.{Shows, linked_rules};
 
+use crate::application::ObjectApplication;
 use crate::numbered_pattern::{NumberedPattern, push_numbered};
 use crate::planning::matching::is_matched;
 use crate::searches::Searches;
-use crate::site::Site;
 use applicators::{FAR_LONGER, Part, Planned, Subject, Way, members_of};
 use json_doc::{Doc, Members};
 use keywords::Keyword;
@@ -67,32 +67,38 @@ pub(crate) fn are_all_named(subject: Subject<'_>, named: u64) -> bool
 pub(crate) fn plan_others<'a>(
     planned: &mut Vec<Planned<'a>>,
     searches: &mut Searches<'a>,
-    site: &Site<'a>,
+    application: &ObjectApplication<'a>,
     schema: &'a Doc,
 ) -> Result<(), AllocError>
     requires { planned.old.items ≡ [] }
-    ensures ok { (a : Application) (k : Text) → Shows site.now a
-        → searched_in searches.old ≡ site.now.linked
+    ensures ok { (a : Application) (k : Text) → Shows application.now a
+        → searched_in searches.old ≡ application.now.linked
         → OnOk result (map (planned_view k a) planned.new.items
-        ≡ planned_others site.now.linked.now k a (value schema.now) (members a.instance)) }
+        ≡ planned_others application.now.linked.now k a (value schema.now) (members a.instance)) }
     ensures searched { searched_in searches.new ≡ searched_in searches.old }
 {
-    match site.subject.members() {
+    match application.subject.members() {
         Some(members) => {
-            plan_untaken(planned, searches, keywords_beside(site), schema, members)
+            plan_untaken(
+                planned,
+                searches,
+                keywords_beside(application),
+                schema,
+                members,
+            )
         },
         None => Ok(()),
     }
 }
 
-fn keywords_beside<'a>(site: &Site<'a>) -> PropertyKeywords<'a>
-    ensures { (a : Application) → Shows site.now a
-        → StandsBeside site.now.linked.now result a }
+fn keywords_beside<'a>(application: &ObjectApplication<'a>) -> PropertyKeywords<'a>
+    ensures { (a : Application) → Shows application.now a
+        → StandsBeside application.now.linked.now result a }
 {
     PropertyKeywords {
-        properties: members_beside(site.schema, Keyword::Properties),
-        patterns: members_beside(site.schema, Keyword::PatternProperties),
-        resource: site.resource,
+        properties: members_beside(application.schema, Keyword::Properties),
+        patterns: members_beside(application.schema, Keyword::PatternProperties),
+        resource: application.resource,
     }
 }
 

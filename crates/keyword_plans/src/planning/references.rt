@@ -11,11 +11,11 @@ ghost use Rattle.keyword_plans.specs.Followed.{target_view};
 ghost use Rattle.keyword_plans.specs.LinkedResources.{HasResources};
 ghost use Rattle.keyword_plans.specs.ScopeViews.{scope_documents, scope_uris};
 ghost use Rattle.applicators.specs.Plans.{planned_view};
-ghost use Rattle.keyword_plans.specs.Sites.{Shows};
+ghost use Rattle.keyword_plans.specs.ObjectApplications.{Shows};
 ghost use Rattle.applicators.specs.Subjects.{subject_value};
 
+use crate::application::ObjectApplication;
 use crate::dynamic_scope::DynamicScope;
-use crate::site::Site;
 use crate::target::Target;
 use applicators::{Part, Planned, Subject, Way};
 use json_doc::Doc;
@@ -25,24 +25,24 @@ use std::alloc::AllocError;
 pub(crate) fn plan_reference<'a>(
     planned: &mut Vec<Planned<'a>>,
     scope: &mut DynamicScope<'a>,
-    site: &Site<'a>,
+    application: &ObjectApplication<'a>,
     reference: &'a Doc,
 ) -> Result<(), AllocError>
     requires { planned.old.items ≡ [] }
-    ensures ok { (a : Application) → Shows site.now a
-        → scope_documents scope.old ≡ site.now.linked
+    ensures ok { (a : Application) → Shows application.now a
+        → scope_documents scope.old ≡ application.now.linked
         → get (codes "$ref") a.schema.value ≡ Some (value reference.now)
         → OnOk result (map (planned_view (codes "$ref") a) planned.new.items
         ≡ to_target a (codes "$ref")
-        (option_and_then (target (linked_schemas site.now.linked.now))
+        (option_and_then (target (linked_schemas application.now.linked.now))
         (reference_at (codes "$ref") a.schema))) }
     ensures uris { scope_uris scope.new ≡ scope_uris scope.old }
     ensures documents { scope_documents scope.new ≡ scope_documents scope.old }
 {
     match reference.as_str() {
         Some(reference) => {
-            let target = scope.target(*planned.allocator(), site.resource, reference)?;
-            plan_target(planned, target, &site.subject)
+            let target = scope.target(*planned.allocator(), application.resource, reference)?;
+            plan_target(planned, target, &application.subject)
         }
         None => Ok(()),
     }
@@ -52,26 +52,30 @@ pub(crate) fn plan_reference<'a>(
 pub(crate) fn plan_dynamic_reference<'a>(
     planned: &mut Vec<Planned<'a>>,
     scope: &mut DynamicScope<'a>,
-    site: &Site<'a>,
+    application: &ObjectApplication<'a>,
     reference: &'a Doc,
 ) -> Result<(), AllocError>
     requires { planned.old.items ≡ [] }
-    ensures ok { (a : Application) → Shows site.now a
-        → scope_documents scope.old ≡ site.now.linked
+    ensures ok { (a : Application) → Shows application.now a
+        → scope_documents scope.old ≡ application.now.linked
         → a.scope ≡ scope_uris scope.old
         → HasResources (scope_documents scope.old).now (scope_uris scope.old)
         → get (codes "$dynamicRef") a.schema.value ≡ Some (value reference.now)
         → OnOk result (map (planned_view (codes "$dynamicRef") a) planned.new.items
         ≡ to_target a (codes "$dynamicRef") (option_and_then
-        (dynamic_target (linked_schemas site.now.linked.now) a.scope)
+        (dynamic_target (linked_schemas application.now.linked.now) a.scope)
         (reference_at (codes "$dynamicRef") a.schema))) }
     ensures uris { scope_uris scope.new ≡ scope_uris scope.old }
     ensures documents { scope_documents scope.new ≡ scope_documents scope.old }
 {
     match reference.as_str() {
         Some(reference) => {
-            let target = scope.dynamic_target(*planned.allocator(), site.resource, reference)?;
-            plan_target(planned, target, &site.subject)
+            let target = scope.dynamic_target(
+                *planned.allocator(),
+                application.resource,
+                reference,
+            )?;
+            plan_target(planned, target, &application.subject)
         }
         None => Ok(()),
     }

@@ -16,5 +16,5 @@ unfolding buffer_text
 returns c =
     let is = written_in c.make_room.new.self c.as_mut_slice.ensures.value c.write_unit-out.ensures.len c.write_unit-out.ensures.written in
     is.written
-    ∙ ap (λ t. buffer_text c.make_room.new.self ++ 44 ∷ t) (unit_parts c.args.annotates c.args.location (says_value c.args.says) c.in_ok-said.said c.in_ok-said.ensures)
+    ∙ ap (λ t. buffer_text c.make_room.new.self ++ 44 ∷ t) (unit_parts c.args.annotates c.args.location (says_value c.args.says) c.in_ok-message.message c.in_ok-message.ensures)
     ∙ ap (λ t. t ++ 44 ∷ text_of_unit c.args.annotates c.args.location (says_value c.args.says)) c.in_ok-make_room.ensures.text

@@ -6,7 +6,7 @@ returns-clause-written c =
     written_on c.write-head.ensures.written
     (written_on c.write-onward.ensures.written
     (written_on c.write-opening.ensures.written
-    (written_on c.write_opening-said.ensures.written
+    (written_on c.write_opening-message.ensures.written
     (written_on c.write-ending.ensures.written
     (written_on c.write_ending-instance_location.ensures.written
     (written_on c.write-key.ensures.written

@@ -25,10 +25,10 @@ returns c =
     let there = subst (λ k. application_at (frame_standing (context_view k)) s.value x ≡ a) (sym c.new-evaluation.ensures.place) (c.new-context.ensures.there s x c.in_ok-start.ensures) in
     let at = first_is_at l (context_view e.context) s x found there in
     let nothing = ap log_view c.new-evaluation.ensures.noted ∙ c.in_ok-log.ensures in
-    let noted = noted_first c.apply_root-passed.result (log_view c.apply_root-passed.new.self.log) _ o nothing ((c.apply_root-passed.ensures.said a at).noted) in
-    let costly = costly_first c.apply_root-passed.result _ o nothing ((c.apply_root-passed.ensures.said a at).err) in
+    let noted = noted_first c.apply_root-passed.result (log_view c.apply_root-passed.new.self.log) _ o nothing ((c.apply_root-passed.ensures.outcome a at).noted) in
+    let costly = costly_first c.apply_root-passed.result _ o nothing ((c.apply_root-passed.ensures.outcome a at).err) in
     let verdict = c.judged-verdict.result in
-    let judged = subst (λ u. Judges verdict u.value o) (sym c.into_units-units.ensures) (c.judged-verdict.ensures o ((c.apply_root-passed.ensures.said a at).found) noted costly) in
+    let judged = subst (λ u. Judges verdict u.value o) (sym c.into_units-units.ensures) (c.judged-verdict.ensures o ((c.apply_root-passed.ensures.outcome a at).found) noted costly) in
     let r = c.output_or_fault.result in
     let given = output_same r (ap (λ k. linked_answer k x) (sym same) ∙ first_outcome l s x found) (c.output_or_fault.ensures o judged) in
     record {

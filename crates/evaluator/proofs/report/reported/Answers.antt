@@ -9,4 +9,4 @@ pub returns-in-Ok : goal.returns-in-Ok
 returns-in-Ok c = λ o valid noted costly.
     let j = c.in-Ok.ensures o valid noted costly in
     let units = subst (λ u. unit_texts (counted_units c.in-Ok.valid u) ≡ map (unit_text c.in-Ok.valid) (reported_units o)) (sym c.deref.ensures) j.1 in
-    gives_same c.made.result j.2 (gives_made c.made.result o c.in-Ok.valid (sym j.0) c.made.ensures.valid (c.made.ensures.text o j.0 units) c.made.ensures.err)
+    gives_same c.noted_report.result j.2 (gives_made c.noted_report.result o c.in-Ok.valid (sym j.0) c.noted_report.ensures.valid (c.noted_report.ensures.text o j.0 units) c.noted_report.ensures.err)

@@ -5,7 +5,7 @@ use Rattle.basic_output.specs.Parts.{text_of_unit}
 use Rattle.basic_output.specs.Pieces.{unit_text}
 use Rattle.basic_output.specs.Sayings.{says_value}
 use Rattle.basic_output.specs.Units.{unit_texts}
-use Rattle.keyword_plans.specs.Sites.{linked_rules}
+use Rattle.keyword_plans.specs.ObjectApplications.{linked_rules}
 use Rattle.evaluation_context.specs.Frames.{context_view}
 use Rattle.keywords.specs.Rows.{row_of}
 use Rattle.evaluator.specs.Rounds.{use_there, linked_outcome}

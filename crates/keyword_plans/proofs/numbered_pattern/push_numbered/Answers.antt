@@ -42,8 +42,8 @@ loop-pattern-preserved-in-Continue-branch-3 c =
           let e = c.in-Some.ensures.steps in
           let has = subst (Contains (patterns_of s)) (sym c.as_str.ensures) (first_pattern l uri s left p rest e so_far.patterns) in
           let one : NumberedPattern = record { pattern = c.in-Some.pattern; schema = c.in-Some.schema; number = c.in-Some-2.number } in
-          let told = subst (NumbersOf uri c.as_str.result.now c.in_ok-number.field-0) c.loop-pattern.invariant.searched c.in_ok-number.ensures.text s are.inside are.resource has in
-          let numbered : IsNumbered l one = subst (λ o. IfSome o (λ n. pattern_text l n ≡ Some c.as_str.result.now)) c.in-Some-2.is told ∙ ap Some c.as_str.ensures in
+          let are_numbered = subst (NumbersOf uri c.as_str.result.now c.in_ok-number.field-0) c.loop-pattern.invariant.searched c.in_ok-number.ensures.text s are.inside are.resource has in
+          let numbered : IsNumbered l one = subst (λ o. IfSome o (λ n. pattern_text l n ≡ Some c.as_str.result.now)) c.in-Some-2.is are_numbered ∙ ap Some c.as_str.ensures in
           record {
             patterns = rest_patterns l uri s left p rest e so_far.patterns;
             numbered =

@@ -7,7 +7,7 @@ use Rattle.keyword_plans.proofs.planning.plan.Goals as goal
 
 pub returns-in-DynamicRef-clause-ok : goal.returns-in-DynamicRef-clause-ok
 returns-in-DynamicRef-clause-ok c a run shows documents scope searched beside condition =
-    let known = subst (λ (us : List Text). HasResources c.args.site.linked.now us) scope shows.scope in
+    let known = subst (λ (us : List Text). HasResources c.args.application.linked.now us) scope shows.scope in
     rw c.in-DynamicRef.is (c.plan_dynamic_reference.ensures.ok a shows documents scope (subst (λ (l : Bor Linked). HasResources l.now (scope_uris c.args.scope.now)) (sym documents) known) (rw c.in-DynamicRef.is at beside))
 
 pub returns-in-PatternProperties-clause-ok : goal.returns-in-PatternProperties-clause-ok

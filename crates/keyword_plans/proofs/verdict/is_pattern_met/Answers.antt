@@ -10,4 +10,4 @@ pub returns-in-Some-as_str-clause-met : goal.returns-in-Some-as_str-clause-met
 returns-in-Some-as_str-clause-met c a shows same e =
     let v = value c.args.pattern.now in
     let all = pattern_holds-strings v a.instance c.in-Some.pattern.now c.in-Some-as_str.text.now c.in-Some.ensures (c.in-Some-as_str.ensures ∙ ap as_string (sym shows.instance)) in
-    IfOk-weaker c.is_match.result _ _ (λ b d. d ∙ all) (c.is_match.ensures.ok a.schema (same_shown _ c.args.site a same shows) shows.resource (pattern-of a.schema v c.in-Some.pattern.now e c.in-Some.ensures))
+    IfOk-weaker c.is_match.result _ _ (λ b d. d ∙ all) (c.is_match.ensures.ok a.schema (same_shown _ c.args.application a same shows) shows.resource (pattern-of a.schema v c.in-Some.pattern.now e c.in-Some.ensures))

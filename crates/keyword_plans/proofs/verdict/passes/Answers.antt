@@ -1,13 +1,13 @@
 use Rattle.json_doc.specs.Docs.{value}
 use Rattle.keywords.specs.Rows.{row_of}
 use Rattle.applicators.specs.Plans.{outcomes_of}
-use Rattle.keyword_plans.specs.Sites.{linked_rules}
+use Rattle.keyword_plans.specs.ObjectApplications.{linked_rules}
 use Rattle.keyword_plans.proofs.Verdicts.{by_count, with_all}
 use Rattle.keyword_plans.proofs.verdict.passes.Goals as goal
 
 pub returns-in_default-keyword-clause-passes : goal.returns-in_default-keyword-clause-passes
 returns-in_default-keyword-clause-passes c a run names indexes shows same beside containing applied passing =
-    let rules = linked_rules c.args.site.linked.now in
+    let rules = linked_rules c.args.application.linked.now in
     let row = row_of c.args.keyword in
     let v = value c.args.keyword_value.now in
     let os = outcomes_of rules run names indexes a row.name row.meaning v in

@@ -7,7 +7,7 @@ use Rattle.stored_documents.proofs.MadeClaims.{claims_of_taken, none_to_make}
 use Rattle.stored_documents.proofs.claims.claims_to_make.Goals as goal
 
 pub loop-document-init : goal.loop-document-init
-loop-document-init c = ap claims_in c.new-made.ensures.items ∙ none_to_make
+loop-document-init c = ap claims_in c.new-new_claims.ensures.items ∙ none_to_make
 
 pub loop-document-preserved : goal.loop-document-preserved
 loop-document-preserved c =

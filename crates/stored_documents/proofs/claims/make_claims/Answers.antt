@@ -12,7 +12,7 @@ loop-claim-init c =
     let gives = c.into_iter-claim-iterator.ensures.into_iter_gives in
     record {
       all = refl;
-      left = gives.1 ∙ c.args.made.ok.0 ∙ sym (ap length gives.0);
+      left = gives.1 ∙ c.args.new_claims.ok.0 ∙ sym (ap length gives.0);
       so_far = λ uri. none_made uri (claim_of c.args.claims.now uri);
     }
 
@@ -40,5 +40,5 @@ pub returns : goal.returns
 returns c =
     let l = c.loop-claim in
     let none : into_iter_items l.claim-iterator ≡ [] = nil_from_length _ (sym l.invariant.left ∙ c.in-None.ensures.steps.0) in
-    let all : l.yielded ≡ c.args.made.items = sym (append-nil l.yielded) ∙ rw none at l.invariant.all ∙ c.into_iter-claim-iterator.ensures.into_iter_gives.0 in
+    let all : l.yielded ≡ c.args.new_claims.items = sym (append-nil l.yielded) ∙ rw none at l.invariant.all ∙ c.into_iter-claim-iterator.ensures.into_iter_gives.0 in
     λ uri. l.invariant.so_far uri ∙ ap (λ ps. option_map (last_claim uri (claims_in ps)) (claim_of c.args.claims.now uri)) all

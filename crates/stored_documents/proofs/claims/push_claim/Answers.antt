@@ -6,7 +6,7 @@ use Rattle.stored_documents.proofs.claims.push_claim.Goals as goal
 
 pub returns : goal.returns
 returns c =
-    let before = claims_in c.args.made.now.items in
+    let before = claims_in c.args.new_claims.now.items in
     ap claims_in c.in_ok-push.ensures.items
-    ∙ claims_pushed c.args.made.now.items (c.in_ok-own_uri.own_uri, c.in_ok-own_document.own_document)
+    ∙ claims_pushed c.args.new_claims.now.items (c.in_ok-own_uri.own_uri, c.in_ok-own_document.own_document)
     ∙ ap₂ (λ u s. before ++ (u, (stored_view s).canonical) ∷ []) c.in_ok-own_uri.ensures.ok c.in_ok-own_document.ensures.cases

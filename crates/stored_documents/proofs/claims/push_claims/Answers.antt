@@ -10,18 +10,18 @@ use Rattle.stored_documents.proofs.MadeClaims.{uris_claimed}
 use Rattle.stored_documents.proofs.claims.push_claims.Goals as goal
 
 pub loop-uri-init : goal.loop-uri-init
-loop-uri-init c = sym (append-nil (claims_in c.args.made.now.items))
+loop-uri-init c = sym (append-nil (claims_in c.args.new_claims.now.items))
 
 pub loop-uri-preserved : goal.loop-uri-preserved
 loop-uri-preserved c =
     let l = c.loop-uri in
-    let before = claims_in c.args.made.now.items in
+    let before = claims_in c.args.new_claims.now.items in
     let canonical = (stored_view c.args.document.now.value).canonical in
     let items : List (String Global) = c.resource_uris-uri-items.result.now in
     let paired : Text → Text × Text = λ u. (u, canonical) in
     let part = map paired (map string_bytes (take l.uri-index items)) in
     c.in_ok-push_claim.ensures
-    ∙ ap (λ u. claims_in l.made.items ++ (u, canonical) ∷ []) c.as_str.ensures.value
+    ∙ ap (λ u. claims_in l.new_claims.items ++ (u, canonical) ∷ []) c.as_str.ensures.value
     ∙ ap (λ (ps : List (Text × Text)). ps ++ (string_bytes c.uri-item.result, canonical) ∷ []) l.invariant
     ∙ append_assoc before part ((string_bytes c.uri-item.result, canonical) ∷ [])
     ∙ ap (λ ps. before ++ ps) (sym (uris_claimed canonical items l.uri-index c.uri-item.result c.loop-uri-test.true c.uri-item.is))
@@ -29,7 +29,7 @@ loop-uri-preserved c =
 pub returns : goal.returns
 unfolding own_claims
 returns c =
-    let before = claims_in c.args.made.now.items in
+    let before = claims_in c.args.new_claims.now.items in
     let canonical = (stored_view c.args.document.now.value).canonical in
     let items : List (String Global) = c.resource_uris-uri-items.result.now in
     let paired : Text → Text × Text = λ u. (u, canonical) in

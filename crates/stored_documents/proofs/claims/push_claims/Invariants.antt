@@ -5,4 +5,4 @@ use Rattle.stored_documents.proofs.claims.push_claims.Given as goal
 
 abbrev pub invariant-loop-uri : goal.invariant-loop-uri
 invariant-loop-uri l =
-    claims_in l.made.items ≡ claims_in l.initial.made.items ++ map (λ u. (u, (stored_view l.document.value).canonical)) (map string_bytes (take l.uri-index l.uri-items))
+    claims_in l.new_claims.items ≡ claims_in l.initial.new_claims.items ++ map (λ u. (u, (stored_view l.document.value).canonical)) (map string_bytes (take l.uri-index l.uri-items))

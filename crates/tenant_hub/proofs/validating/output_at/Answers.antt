@@ -1,7 +1,7 @@
 use Rattle.std.proofs.Common.{Ok, refl, sym, subst, ap, ◌∙◌, string_bytes}
 use Rattle.std.proofs.lemmas.Result.{err_from_is_err_and}
 use Rattle.json_doc.specs.Docs.{value}
-use Rattle.tenant_hub.specs.KeptLinks.{IsLinkOf}
+use Rattle.tenant_hub.specs.CachedLinks.{IsLinkOf}
 use Rattle.tenant_hub.proofs.ValidationReplies.{unlinked, by_link, replied, refused_as}
 use Rattle.tenant_hub.proofs.validating.output_at.Goals as goal
 

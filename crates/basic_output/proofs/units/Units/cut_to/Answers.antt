@@ -33,7 +33,7 @@ truncate-requires-3 c =
 
 -- the order of what stays is that of the spans that stay
 stays : (m : ℕ) (order items : List ℕ) (ss seen : List Span) → items ≡ take m order → order ≡ order_of ss → seen ≡ ss → list_all (λ (s : Span). nat_le m s.position) (drop m seen) ≡ true → items ≡ order_of (take m ss)
-stays m order items ss seen left told same behind = left ∙ ap (take m) told ∙ front_order m ss (ap (λ xs. list_all (λ (s : Span). nat_le m s.position) (drop m xs)) (sym same) ∙ behind)
+stays m order items ss seen left is_ordered same behind = left ∙ ap (take m) is_ordered ∙ front_order m ss (ap (λ xs. list_all (λ (s : Span). nat_le m s.position) (drop m xs)) (sym same) ∙ behind)
 
 pub invariant_of-self-2 : goal.invariant_of-self-2
 invariant_of-self-2 c =
@@ -45,12 +45,12 @@ invariant_of-self-2 c =
     let v = cut t (take m ss) up (All-take (IsSpan t) m ss old.are_spans) in
     let left = c.truncate-2.ensures.items in
     let bytes = c.truncate-3.ensures ∙ ap (λ i. take i t) (c.end_of.ensures ∙ ap (last_end 0) (c.as_slice-2.ensures.value ∙ left)) in
-    let stay = λ (e : old.loose ≡ false). stays m old.order.items c.truncate.new.self.items ss c.as_slice.result.now c.truncate.ensures.items (old.told e) c.as_slice.ensures.value (sym c.if-not-are_put_behind.ensures) in
+    let stay = λ (e : old.is_unordered ≡ false). stays m old.order.items c.truncate.new.self.items ss c.as_slice.result.now c.truncate.ensures.items (old.is_ordered e) c.as_slice.ensures.value (sym c.if-not-are_put_behind.ensures) in
     record {
       are_spans = subst (λ xs. All (IsSpan (buffer_text c.truncate-3.new.self)) xs) (sym left) (subst (λ b. All (IsSpan b) (take m ss)) (sym bytes) v.are_spans);
       ascend = ap (ascends 0) left ∙ up;
       within = subst (λ xs. All (λ i. i < length xs) c.truncate.new.self.items) (sym left) (subst (λ o. All (λ i. i < length (take m ss)) o) (sym (stay c.if-self.false)) (all_below (take m ss)));
-      told = λ e. stay e ∙ ap order_of (sym left);
+      is_ordered = λ e. stay e ∙ ap order_of (sym left);
     }
 
 pub returns : goal.returns
@@ -65,7 +65,7 @@ returns c =
     let v = cut t (take m ss) (ascends_take m 0 ss old.ascend) (All-take (IsSpan t) m ss old.are_spans) in
     let left = c.truncate-2.ensures.items in
     let bytes = c.truncate-3.ensures ∙ ap (λ i. take i t) (c.end_of.ensures ∙ ap (last_end 0) (c.as_slice-2.ensures.value ∙ left)) in
-    let stay = stays m order c.truncate.new.self.items ss c.as_slice.result.now c.truncate.ensures.items (old.told c.if-self.false) c.as_slice.ensures.value (sym c.if-not-are_put_behind.ensures) in
+    let stay = stays m order c.truncate.new.self.items ss c.as_slice.result.now c.truncate.ensures.items (old.is_ordered c.if-self.false) c.as_slice.ensures.value (sym c.if-not-are_put_behind.ensures) in
     let texts : map (span_text (buffer_text c.truncate-3.new.self)) c.truncate-2.new.self.items ≡ map g (take m ss) = ap₂ (λ b xs. map (span_text b) xs) bytes left ∙ v.same in
     let parts : map g (take m ss) ++ map g (drop m ss) ≡ map g ss = sym (map-append g (take m ss) (drop m ss)) ∙ ap (map g) (take-append-drop m ss) in
     let within = subst (λ n. All (λ i. i < n) c.truncate.new.self.items) (sym (length-map (take m ss) g)) (subst (λ o. All (λ i. i < length (take m ss)) o) (sym stay) (all_below (take m ss))) in

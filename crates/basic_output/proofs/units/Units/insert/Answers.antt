@@ -42,7 +42,7 @@ invariant_of-self-in-Ok c =
       are_spans = k.are_spans;
       ascend = k.ascend;
       within = subst (λ o. All (λ i. i < length c.push.new.self.items) o) (sym c.in-Ok.ensures.ok) (within_one c.len-place.result p old.order.items ss c.push.new.self.items span place c.in_ok-push.ensures.items old.within);
-      told = λ e. c.in-Ok.ensures.ok ∙ ap₂ (λ o i. insert o p i) (old.told e) place ∙ on ∙ ap order_of (sym c.in_ok-push.ensures.items);
+      is_ordered = λ e. c.in-Ok.ensures.ok ∙ ap₂ (λ o i. insert o p i) (old.is_ordered e) place ∙ on ∙ ap order_of (sym c.in_ok-push.ensures.items);
     }
 
 pub invariant_of-self-in-Err : goal.invariant_of-self-in-Err
@@ -55,7 +55,7 @@ invariant_of-self-in-Err c =
       ascend = k.ascend;
       within = subst (λ o. All (λ i. i < length c.push.new.self.items) o) (sym c.in-Err.ensures.unchanged)
           (below_more (length old.spans.items) (length c.push.new.self.items) old.order.items (omega (arith, ap length c.in_ok-push.ensures.items, length-append old.spans.items (span ∷ []))) old.within);
-      told = λ e. absurd (cc);
+      is_ordered = λ e. absurd (cc);
     }
 
 pub returns-in-Ok-clause-ok : goal.returns-in-Ok-clause-ok

@@ -71,9 +71,9 @@ invariant-use_groups-loop-next l =
     record {
       linked : l.self.linked ≡ l.fn.self.linked;
       back : context_view l.self.context ≡ context_view l.fn.self.context;
-      said : (a : Application) → IsAt l.fn.self.linked.now (context_view l.fn.self.context) (value l.here.present.now.schema.now) (subject_value l.here.subject) a
+      outcome : (a : Application) → IsAt l.fn.self.linked.now (context_view l.fn.self.context) (value l.schema_use.present.now.schema.now) (subject_value l.schema_use.subject) a
           → HasUses l.fn.self l.self (Ok l.valid) a (groups_uses l.fn.self.linked.now l.nesting a (take l.next first_groups));
-      named : (a : Application) → IsAt l.fn.self.linked.now (context_view l.fn.self.context) (value l.here.present.now.schema.now) (subject_value l.here.subject) a
+      named : (a : Application) → IsAt l.fn.self.linked.now (context_view l.fn.self.context) (value l.schema_use.present.now.schema.now) (subject_value l.schema_use.subject) a
           → l.named ≤ named_count a;
     }
 

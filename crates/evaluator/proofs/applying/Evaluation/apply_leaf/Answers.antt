@@ -14,15 +14,15 @@ use Rattle.evaluator.proofs.LeafLaws.{leaf_uses}
 use Rattle.evaluator.proofs.ObjectLaws.{object_by_groups}
 use Rattle.evaluator.proofs.applying.Evaluation.apply_leaf.Goals as goal
 
-pub returns-clause-said : goal.returns-clause-said
-returns-clause-said c a left at =
+pub returns-clause-outcome : goal.returns-clause-outcome
+returns-clause-outcome c a left at =
     let l = c.args.self.now.linked.now in
     let s = value c.args.present.now.schema.now in
     let same : a.schema.value ≡ s = ap (λ (b : Application). b.schema.value) at.there in
     let us = groups_uses l left a first_groups in
     let n = log_view c.args.self.now.log in
     let mid = log_view c.count_one.new.self in
-    let used = c.in_ok-valid.ensures.said a left at in
+    let used = c.in_ok-valid.ensures.outcome a left at in
     let object = ap (outcome_of_uses a) (leaf_uses l left a s same c.requires.leaf) ∙ sym (object_by_groups l left a) in
     record {
       found = used.found ∙ ap (λ (o : Outcome). o.valid) object;

@@ -7,8 +7,8 @@ use Rattle.evaluator.specs.Rounds.{use_there}
 use Rattle.evaluator.proofs.SettlingLaws.{use_valid}
 use Rattle.evaluator.proofs.applying.Evaluation.finish_keyword.Goals as goal
 
-pub returns-clause-said : goal.returns-clause-said
-returns-clause-said c a left names indexes before at finds m e =
+pub returns-clause-outcome : goal.returns-clause-outcome
+returns-clause-outcome c a left names indexes before at finds m e =
     let l = c.args.self.now.linked.now in
     let v = value c.args.keyword_value.now in
     let passes = c.in_ok-passes.ensures.passes a left names indexes at finds.number finds.passing in
@@ -20,8 +20,8 @@ returns-clause-said c a left names indexes before at finds m e =
       err = tt;
     }
 
-pub returns-in_err-settle-clause-said : goal.returns-in_err-settle-clause-said
-returns-in_err-settle-clause-said c a left names indexes before at finds m e = record { found = search rules; noted = search rules; err = search rules }
+pub returns-in_err-settle-clause-outcome : goal.returns-in_err-settle-clause-outcome
+returns-in_err-settle-clause-outcome c a left names indexes before at finds m e = record { found = search rules; noted = search rules; err = search rules }
 
 pub returns-clause-back : goal.returns-clause-back
 returns-clause-back c older e = c.leave_keyword.ensures.left older (row_of c.args.keyword).name (c.in_ok-settle.ensures.back ∙ ap context_view c.in_ok-passes.ensures.same.context ∙ e)

@@ -5,7 +5,7 @@ use Rattle.json_doc.specs.NamedMembers.{name_text}
 use Rattle.json_doc.specs.Docs.{value}
 use Rattle.keywords.specs.Rows.{row_of}
 use Rattle.applicators.specs.Plans.{planned_view}
-use Rattle.keyword_plans.specs.Sites.{linked_rules}
+use Rattle.keyword_plans.specs.ObjectApplications.{linked_rules}
 use Rattle.evaluation_context.specs.Frames.{context_view, frame_standing}
 use Rattle.evaluator.specs.Logs.{log_view}
 use Rattle.evaluator.specs.Rounds.{linked_outcome}
@@ -16,11 +16,11 @@ use Rattle.evaluator.proofs.applying.Evaluation.plan_keyword.Goals as goal
 pub returns-clause-planned : goal.returns-clause-planned
 unfolding log_view context_view frame_standing
 returns-clause-planned c a left used =
-    let at = used.here in
+    let at = used.schema_use in
     let l = c.args.self.now.linked.now in
     let row = row_of c.args.keyword in
-    let names = λ (looks : looks_at_evaluated row.meaning ≡ true). c.evaluated_for.ensures.names looks ∙ ap (λ ns. drop c.args.here.now.before.names (map name_text ns)) c.deref.ensures.value in
-    let indexes = λ (looks : looks_at_evaluated row.meaning ≡ true). c.evaluated_for.ensures.indexes looks ∙ ap (λ is. drop c.args.here.now.before.indexes is) c.deref-2.ensures.value in
+    let names = λ (looks : looks_at_evaluated row.meaning ≡ true). c.evaluated_for.ensures.names looks ∙ ap (λ ns. drop c.args.schema_use.now.before.names (map name_text ns)) c.deref.ensures.value in
+    let indexes = λ (looks : looks_at_evaluated row.meaning ≡ true). c.evaluated_for.ensures.indexes looks ∙ ap (λ is. drop c.args.schema_use.now.before.indexes is) c.deref-2.ensures.value in
     plan_of l left c.args.keyword a _ _ _ _ at.inside at.scope used.valued
     (c.in_ok-plan.ensures.ok a (linked_outcome l left)
     (record {
@@ -43,7 +43,7 @@ returns-in_err-plan-clause-back c = ap (λ uris. record (context_view c.args.sel
 
 pub returns-then-surely_applies_nothing-clause-planned : goal.returns-then-surely_applies_nothing-clause-planned
 returns-then-surely_applies_nothing-clause-planned c a left used =
-    let at = used.here in
+    let at = used.schema_use in
     let l = c.args.self.now.linked.now in
     plan_of l left c.args.keyword a _ _ _ _ at.inside at.scope used.valued
     (ap (map (planned_view (row_of c.args.keyword).name a)) c.new.ensures.items

@@ -23,8 +23,8 @@ use Rattle.evaluator.proofs.LogLaws.{added_nothing}
 use Rattle.evaluator.proofs.TurnLaws.{none_used}
 use Rattle.evaluator.proofs.applying.Evaluation.use_assertion.Goals as goal
 
-pub returns-then-met-clause-said : goal.returns-then-met-clause-said
-returns-then-met-clause-said c a left at =
+pub returns-then-met-clause-outcome : goal.returns-then-met-clause-outcome
+returns-then-met-clause-outcome c a left at =
     let k = c.args.keyword in
     let x = assertion_view c.args.assertion in
     let v = value c.in-Some.keyword_value.now in
@@ -40,8 +40,8 @@ returns-then-met-clause-said c a left at =
       err = tt;
     }
 
-pub returns-else-met-clause-said : goal.returns-else-met-clause-said
-returns-else-met-clause-said c a left at =
+pub returns-else-met-clause-outcome : goal.returns-else-met-clause-outcome
+returns-else-met-clause-outcome c a left at =
     let k = c.args.keyword in
     let x = assertion_view c.args.assertion in
     let v = value c.in-Some.keyword_value.now in
@@ -62,8 +62,8 @@ returns-else-met-clause-said c a left at =
       err = IfErr-weaker c.refuse.result (λ h. h ≡ halt.NoRoom) _ (λ h same other. absurd (other same)) c.refuse.ensures.err;
     }
 
-pub returns-in-None-clause-said : goal.returns-in-None-clause-said
-returns-in-None-clause-said c a left at =
+pub returns-in-None-clause-outcome : goal.returns-in-None-clause-outcome
+returns-in-None-clause-outcome c a left at =
     let k = c.args.keyword in
     let gone : get (row_of k).name a.schema.value ≡ None = ap (λ (b : Application). get (row_of k).name b.schema.value) at.there ∙ sym c.in-None.ensures in
     subst (HasUses c.args.self.now c.args.self.now (Ok true) a) (sym (absent_use c.args.self.now.linked.now left a k gone)) (none_used c.args.self.now a)

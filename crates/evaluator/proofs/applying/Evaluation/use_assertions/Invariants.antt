@@ -14,7 +14,7 @@ invariant-loop-next l =
     record {
       linked : l.self.linked ≡ l.fn.self.linked;
       back : context_view l.self.context ≡ context_view l.fn.self.context;
-      said : (a : Application) (left : ℕ) → IsAt l.fn.self.linked.now (context_view l.fn.self.context) (value l.here.present.now.schema.now) (subject_value l.here.subject) a
+      outcome : (a : Application) (left : ℕ) → IsAt l.fn.self.linked.now (context_view l.fn.self.context) (value l.schema_use.present.now.schema.now) (subject_value l.schema_use.subject) a
           → HasUses l.fn.self l.self (Ok l.valid) a (groups_uses l.fn.self.linked.now left a (take l.next first_groups));
     }
 

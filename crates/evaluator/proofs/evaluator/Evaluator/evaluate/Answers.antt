@@ -23,10 +23,10 @@ returns c =
     let a = first_application found.0 x in
     let o = root_outcome l a in
     let at = is_at_root l (context_view e.evaluation.context) (value e.schema.now) x found.0 stands found.1 in
-    let noted = noted_first c.apply_root-passed.result (log_view c.apply_root-passed.new.self.log) _ o e.nothing_noted ((c.apply_root-passed.ensures.said a at).noted) in
-    let costly = costly_first c.apply_root-passed.result _ o e.nothing_noted ((c.apply_root-passed.ensures.said a at).err) in
+    let noted = noted_first c.apply_root-passed.result (log_view c.apply_root-passed.new.self.log) _ o e.nothing_noted ((c.apply_root-passed.ensures.outcome a at).noted) in
+    let costly = costly_first c.apply_root-passed.result _ o e.nothing_noted ((c.apply_root-passed.ensures.outcome a at).err) in
     let r = c.reported-report.result in
-    let given = gives_same r (ap (λ m. linked_answer m x) (sym same) ∙ first_outcome l found.0 x found.1) (c.reported-report.ensures o ((c.apply_root-passed.ensures.said a at).found) noted costly) in
+    let given = gives_same r (ap (λ m. linked_answer m x) (sym same) ∙ first_outcome l found.0 x found.1) (c.reported-report.ensures o ((c.apply_root-passed.ensures.outcome a at).found) noted costly) in
     record {
       ok = gives_ok r _ given;
       err = gives_err r _ given;

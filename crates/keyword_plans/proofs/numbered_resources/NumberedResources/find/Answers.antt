@@ -5,7 +5,7 @@ pub invariant_of-self : goal.invariant_of-self
 invariant_of-self c =
     let kept = c.args.self.now in
     record {
-      told = kept.told;
+      are_numbered = kept.are_numbered;
       opened_right = kept.opened_right;
       documents_right =
           document_after kept.linked.now kept.texts kept.documents c.insert.new.self c.args.number c.in-Some.document c.args.uri.now c.insert.result

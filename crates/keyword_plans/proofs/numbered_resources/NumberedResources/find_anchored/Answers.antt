@@ -6,7 +6,7 @@ pub invariant_of-self : goal.invariant_of-self
 invariant_of-self c =
     let kept = c.args.self.now in
     record {
-      told = kept.told;
+      are_numbered = kept.are_numbered;
       opened_right = kept.opened_right;
       documents_right = kept.documents_right;
       anchored_right =

@@ -11,7 +11,7 @@ use Rattle.keyword_plans.proofs.planning.matching.plan_patterns.Goals as goal
 
 pub returns-in-Some-members-clause-ok : goal.returns-in-Some-members-clause-ok
 returns-in-Some-members-clause-ok c a k shows same e =
-    let are = subst (ArePatternsOf c.args.site.now.linked.now c.args.site.now.resource.now a.schema) (sym c.in-Some.ensures) (site_patterns c.args.site.now a (value c.args.schemas.now) shows e) in
+    let are = subst (ArePatternsOf c.args.application.now.linked.now c.args.application.now.resource.now a.schema) (sym c.in-Some.ensures) (site_patterns c.args.application.now a (value c.args.schemas.now) shows e) in
     let all = ap₂ (planned_pattern k a) c.in-Some.ensures (c.in-Some-members.ensures ∙ ap members (sym shows.instance)) in
     on_ok_weaker c.plan_matched.result (λ d. d ∙ all) (c.plan_matched.ensures.ok a k a.schema (same_patterns _ _ _ a.schema (members_value c.in-Some.patterns.now) same are))
 

@@ -6,5 +6,5 @@ returns c a shows =
     record {
       properties = c.members_beside.ensures a shows.schema;
       patterns = c.members_beside-2.ensures a shows.schema;
-      inside = patterns_beside c.args.site.now a shows;
+      inside = patterns_beside c.args.application.now a shows;
     }

@@ -6,7 +6,7 @@ use Rattle.json_doc.specs.NamedMembers.{name_text, named_left}
 use Rattle.keyword_plans.specs.Applications.{planned_others}
 use Rattle.applicators.specs.Plans.{planned_view}
 use Rattle.keyword_plans.specs.SearchedIn.{searched_in}
-use Rattle.keyword_plans.specs.Sites.{linked_rules}
+use Rattle.keyword_plans.specs.ObjectApplications.{linked_rules}
 use Rattle.applicators.proofs.Growing.{grown}
 use Rattle.keyword_plans.proofs.Taken.{others-here, same_takers, taken-same}
 use Rattle.keyword_plans.proofs.planning.others.push_untaken.Goals as goal

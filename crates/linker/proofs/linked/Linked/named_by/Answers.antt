@@ -12,5 +12,5 @@ returns-in-None c = λ text is.
     let l = c.args.self.now in
     let r = c.args.named.now in
     let nothing = target_of_first l (string_bytes r.uri) (fragment_view r.fragment) None
-        (c.in-None.ensures ∙ ap (λ u. find (holds_resource u) (linked_documents l)) c.as_str.ensures.value) in
+    (c.in-None.ensures ∙ ap (λ u. find (holds_resource u) (linked_documents l)) c.as_str.ensures.value) in
     read (linked_schemas l) text r None is nothing (λ scope. ap (option_map (λ first. dynamic_by (linked_schemas l) scope first (Ok (fragment_view r.fragment)))) nothing) tt

@@ -32,6 +32,6 @@ returns-in-Some c = λ text is.
     let anchor = c.dynamic_anchor-anchor in
     let found : Some (located_view target) ≡ target_of table r =
     ap (option_map located_view) (sym c.in-Some.is) ∙ c.in_ok-target.ensures ∙ ap (λ u. target_by table u (fragment_view r.fragment)) c.as_str.ensures.value in
-    read table text r (Some (record { target = target; anchor = anchor.result; })) is found
+    read table text r (Some (record { target = target; anchor = anchor.result })) is found
     (λ scope. ap Some (anchor.ensures.named table scope) ∙ ap (option_map (λ first. dynamic_by table scope first (Ok (fragment_view r.fragment)))) found)
     (anchor_where table _ _ (located_view target) anchor.result found anchor.ensures.own)

@@ -3,7 +3,7 @@ use Rattle.std.specs.BTreeMap.{keys}
 use Rattle.std.specs.List.{flat_map}
 use Rattle.text_numbers.specs.TextNumbers.{AreNumbers}
 use Rattle.linker.specs.DocumentTexts.{identifying_texts}
-use Rattle.linker.proofs.ToldTexts.{all_told}
+use Rattle.linker.proofs.NumberedTexts.{all_told}
 use Rattle.linker.proofs.linked.Linked.texts.Goals as goal
 
 pub returns : goal.returns

@@ -5,15 +5,15 @@ use Rattle.shared_cache.proofs.cache.Cache.compiled_as.Goals as goal
 
 pub returns-in-Some-clause-value : goal.returns-in-Some-clause-value
 returns-in-Some-clause-value c =
-    let made = rw c.in-Some.is at c.in_ok-found.ensures.found in
-    one_value c.args.key.now.value.1 (value c.args.document.now) (compiled_value c.in-Some.found.value) c.requires made.1
+    let compiled = rw c.in-Some.is at c.in_ok-found.ensures.found in
+    one_value c.args.key.now.value.1 (value c.args.document.now) (compiled_value c.in-Some.found.value) c.requires compiled.1
 
 pub returns-in-Some-clause-sound : goal.returns-in-Some-clause-sound
 returns-in-Some-clause-sound c =
-    let made = rw c.in-Some.is at c.in_ok-found.ensures.found in
-    sound_as c.args.key.now.value (value c.args.document.now) c.in-Some.found.value c.deref.result.now c.deref.ensures made c.requires c.document.ensures.faultless
+    let compiled = rw c.in-Some.is at c.in_ok-found.ensures.found in
+    sound_as c.args.key.now.value (value c.args.document.now) c.in-Some.found.value c.deref.result.now c.deref.ensures compiled c.requires c.document.ensures.faultless
 
 pub returns-in-Some-clause-regular : goal.returns-in-Some-clause-regular
 returns-in-Some-clause-regular c =
-    let made = rw c.in-Some.is at c.in_ok-found.ensures.found in
-    regular_as c.args.key.now.value (value c.args.document.now) c.in-Some.found.value c.deref.result.now c.deref.ensures made c.requires c.document.ensures.regular
+    let compiled = rw c.in-Some.is at c.in_ok-found.ensures.found in
+    regular_as c.args.key.now.value (value c.args.document.now) c.in-Some.found.value c.deref.result.now c.deref.ensures compiled c.requires c.document.ensures.regular

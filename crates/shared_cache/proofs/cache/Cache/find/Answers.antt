@@ -10,7 +10,7 @@ invariant_of-self c =
     let k : Shared = c.args.key.now in
     let es = c.self.inside.entries.entries in
     let s : Stands k es c.in-Some.found.now = stands k es c.in-Some.found.now c.self.invariant (sym c.in-Some.ensures) in
-    rw (c.promote.ensures.entries, s.found) (s.made, made_remove k es c.self.invariant)
+    rw (c.promote.ensures.entries, s.found) (s.compiled, made_remove k es c.self.invariant)
 
 pub returns-in_ok-found-in-Some-clause-found : goal.returns-in_ok-found-in-Some-clause-found
 returns-in_ok-found-in-Some-clause-found c =

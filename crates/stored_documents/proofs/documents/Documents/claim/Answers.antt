@@ -18,8 +18,8 @@ returns-in-Ok-clause-same c = refl
 
 pub returns-in-Err-clause-same : goal.returns-in-Err-clause-same
 unfolding documents_in
-returns-in-Err-clause-same c = c.release_made.ensures.same
+returns-in-Err-clause-same c = c.release_new_claims.ensures.same
 
 pub returns-in-Err-clause-fresh : goal.returns-in-Err-clause-fresh
 unfolding documents_in
-returns-in-Err-clause-fresh c = given_up c.args.self.now _ c.release_made.new.self (claimed_uris c.args.made.now) refl c.claim_unclaimed.ensures.only c.release_made.ensures.released
+returns-in-Err-clause-fresh c = given_up c.args.self.now _ c.release_new_claims.new.self (claimed_uris c.args.new_claims.now) refl c.claim_unclaimed.ensures.only c.release_new_claims.ensures.released

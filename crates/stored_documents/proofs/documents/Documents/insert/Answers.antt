@@ -28,10 +28,10 @@ pub invariant_of-self : goal.invariant_of-self
 unfolding documents_in
 invariant_of-self c =
     let d = stored_view c.args.document.value in
-    let made = c.push_claims.new.made.items in
+    let new_claims = c.push_claims.new.new_claims.items in
     record {
-      claimed = claimed_after c.claim.new.self.claims c.make_claims.new.claims (d ∷ []) (ordered_documents c.claim.new.self.ordered) (ordered_documents c.insert.new.self) (claims_in made)
-          (claims_made c.new-made.result.items made d c.new-made.ensures.items c.in_ok-push_claims.ensures)
+      claimed = claimed_after c.claim.new.self.claims c.make_claims.new.claims (d ∷ []) (ordered_documents c.claim.new.self.ordered) (ordered_documents c.insert.new.self) (claims_in new_claims)
+          (claims_made c.new-new_claims.result.items new_claims d c.new-new_claims.ensures.items c.in_ok-push_claims.ensures)
           c.in-Ok.ensures.placed
           refl
           (kept_ordered c.insert.new.self).distinct
@@ -61,7 +61,7 @@ returns-in-None-clause-replaced c =
 
 pub returns-in-Err-clause-kept : goal.returns-in-Err-clause-kept
 unfolding documents_in
-returns-in-Err-clause-kept c = c.release_made.ensures.same ∙ c.in-Err.ensures.kept ∙ c.claim.ensures.same
+returns-in-Err-clause-kept c = c.release_new_claims.ensures.same ∙ c.in-Err.ensures.kept ∙ c.claim.ensures.same
 
 only_one : (d e : Document) → Contains (d ∷ []) e → d ≡ e
 only_one d e k = elim (first_or_later d e [] k) [
@@ -77,12 +77,12 @@ unfolding documents_in
 returns-in-Some-clause-fresh c =
     let old = c.args.self.now in
     let d = stored_view c.args.document.value in
-    let made = c.push_claims.new.made.items in
-    put_fresh old _ c.release_document.new.self (d ∷ []) (claimed_uris made) (resources_of (stored_view c.deref-in-Some.result.now))
+    let new_claims = c.push_claims.new.new_claims.items in
+    put_fresh old _ c.release_document.new.self (d ∷ []) (claimed_uris new_claims) (resources_of (stored_view c.deref-in-Some.result.now))
     (c.in-Ok.ensures.placed ∙ ap (documents_with d) c.claim.ensures.same) refl
-    (only_made c.claim.new.self.claims c.make_claims.new.claims (λ u. last_claim u (claims_in made)) (claimed_uris made) c.make_claims.ensures old.claims
+    (only_made c.claim.new.self.claims c.make_claims.new.claims (λ u. last_claim u (claims_in new_claims)) (claimed_uris new_claims) c.make_claims.ensures old.claims
     (subst (λ ps. ClaimsOnly old.claims (claimed_uris ps) c.claim.new.self.claims) c.deref.ensures.value c.in_ok-claim.ensures.only))
-    (own_uris made (d ∷ []) (claims_made c.new-made.result.items made d c.new-made.ensures.items c.in_ok-push_claims.ensures))
+    (own_uris new_claims (d ∷ []) (claims_made c.new-new_claims.result.items new_claims d c.new-new_claims.ensures.items c.in_ok-push_claims.ensures))
     (λ x e k i same u own. is_gone (documents_in old) d.canonical c.in-Ok.replaced c.in-Some.replaced c.deref-in-Some.result.now (kept_documents old)
     (c.in-Ok.ensures.replaced ∙ ap (λ ds. document_of ds d.canonical) c.claim.ensures.same) c.in-Some.is c.deref-in-Some.ensures
     x k (ap (λ (y : Document). y.canonical) (only_one d e i) ∙ same) u own)
@@ -93,12 +93,12 @@ unfolding documents_in
 returns-in-None-clause-fresh c =
     let old = c.args.self.now in
     let d = stored_view c.args.document.value in
-    let made = c.push_claims.new.made.items in
-    put_fresh old _ _ (d ∷ []) (claimed_uris made) []
+    let new_claims = c.push_claims.new.new_claims.items in
+    put_fresh old _ _ (d ∷ []) (claimed_uris new_claims) []
     (c.in-Ok.ensures.placed ∙ ap (documents_with d) c.claim.ensures.same) refl
-    (only_made c.claim.new.self.claims c.make_claims.new.claims (λ u. last_claim u (claims_in made)) (claimed_uris made) c.make_claims.ensures old.claims
+    (only_made c.claim.new.self.claims c.make_claims.new.claims (λ u. last_claim u (claims_in new_claims)) (claimed_uris new_claims) c.make_claims.ensures old.claims
     (subst (λ ps. ClaimsOnly old.claims (claimed_uris ps) c.claim.new.self.claims) c.deref.ensures.value c.in_ok-claim.ensures.only))
-    (own_uris made (d ∷ []) (claims_made c.new-made.result.items made d c.new-made.ensures.items c.in_ok-push_claims.ensures))
+    (own_uris new_claims (d ∷ []) (claims_made c.new-new_claims.result.items new_claims d c.new-new_claims.ensures.items c.in_ok-push_claims.ensures))
     (λ x e k i same u own. absurd (none_gone (documents_in old) d.canonical c.in-Ok.replaced (kept_documents old)
     (c.in-Ok.ensures.replaced ∙ ap (λ ds. document_of ds d.canonical) c.claim.ensures.same) c.in-None.is
     x k (ap (λ (y : Document). y.canonical) (only_one d e i) ∙ same)))
@@ -107,6 +107,6 @@ returns-in-None-clause-fresh c =
 pub returns-in-Err-clause-fresh : goal.returns-in-Err-clause-fresh
 unfolding documents_in
 returns-in-Err-clause-fresh c =
-    given_up c.args.self.now _ c.release_made.new.self (claimed_uris c.deref-in-Err.result.now) (c.in-Err.ensures.kept ∙ c.claim.ensures.same)
+    given_up c.args.self.now _ c.release_new_claims.new.self (claimed_uris c.deref-in-Err.result.now) (c.in-Err.ensures.kept ∙ c.claim.ensures.same)
     (subst (λ ps. ClaimsOnly c.args.self.now.claims (claimed_uris ps) c.claim.new.self.claims) (c.deref.ensures.value ∙ sym c.deref-in-Err.ensures.value) c.in_ok-claim.ensures.only)
-    c.release_made.ensures.released
+    c.release_new_claims.ensures.released

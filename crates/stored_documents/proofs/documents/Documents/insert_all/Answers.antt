@@ -30,8 +30,8 @@ invariant_of-self c =
     let es = stored_documents c.args.documents.items in
     record {
       claimed = claimed_after c.claim.new.self.claims c.make_claims.new.claims es (ordered_documents c.claim.new.self.ordered) (ordered_documents c.insert_all.new.self)
-          (claims_in c.in_ok-made.made.items)
-          (c.in_ok-made.ensures ∙ ap (λ ss. claims_of (stored_documents ss)) c.deref-2.ensures.value)
+          (claims_in c.in_ok-new_claims.new_claims.items)
+          (c.in_ok-new_claims.ensures ∙ ap (λ ss. claims_of (stored_documents ss)) c.deref-2.ensures.value)
           c.in-Ok.ensures.placed
           (unrepeated es c.requires.once)
           (kept_ordered c.insert_all.new.self).distinct
@@ -47,26 +47,26 @@ returns-in-Ok-clause-placed c =
 
 pub returns-clause-kept : goal.returns-clause-kept
 unfolding documents_in
-returns-clause-kept c = c.release_made.ensures.same ∙ c.in-Err.ensures.kept ∙ c.claim.ensures.same
+returns-clause-kept c = c.release_new_claims.ensures.same ∙ c.in-Err.ensures.kept ∙ c.claim.ensures.same
 
 pub returns-in_err-replaced-clause-fresh : goal.returns-in_err-replaced-clause-fresh
 returns-in_err-replaced-clause-fresh c = stays c.args.self.now
 
-pub returns-in_err-made-clause-fresh : goal.returns-in_err-made-clause-fresh
-returns-in_err-made-clause-fresh c = stays c.args.self.now
+pub returns-in_err-new_claims-clause-fresh : goal.returns-in_err-new_claims-clause-fresh
+returns-in_err-new_claims-clause-fresh c = stays c.args.self.now
 
 pub returns-in-Ok-clause-fresh : goal.returns-in-Ok-clause-fresh
 unfolding documents_in
 returns-in-Ok-clause-fresh c =
     let old = c.args.self.now in
     let es = stored_documents c.args.documents.items in
-    let made = c.in_ok-made.made.items in
+    let new_claims = c.in_ok-new_claims.new_claims.items in
     let gone = stored_documents c.deref-in-Ok.result.now in
-    put_fresh old _ c.release_documents.new.self es (claimed_uris made) (resource_uris_of gone)
+    put_fresh old _ c.release_documents.new.self es (claimed_uris new_claims) (resource_uris_of gone)
     (c.in-Ok.ensures.placed ∙ ap (documents_with_all es) c.claim.ensures.same) (unrepeated es c.requires.once)
-    (only_made c.claim.new.self.claims c.make_claims.new.claims (λ u. last_claim u (claims_in made)) (claimed_uris made) c.make_claims.ensures old.claims
+    (only_made c.claim.new.self.claims c.make_claims.new.claims (λ u. last_claim u (claims_in new_claims)) (claimed_uris new_claims) c.make_claims.ensures old.claims
     (subst (λ ps. ClaimsOnly old.claims (claimed_uris ps) c.claim.new.self.claims) c.deref-3.ensures.value c.in_ok-claim.ensures.only))
-    (own_uris made es (c.in_ok-made.ensures ∙ ap (λ ss. claims_of (stored_documents ss)) c.deref-2.ensures.value))
+    (own_uris new_claims es (c.in_ok-new_claims.ensures ∙ ap (λ ss. claims_of (stored_documents ss)) c.deref-2.ensures.value))
     (λ x e k i same u own. in_flat_map resources_of x u gone
     (subst (λ ss. Contains (stored_documents ss) x) (sym c.deref-in-Ok.ensures.value)
     (c.in_ok-replaced.ensures x e k (subst (λ ss. Contains (stored_documents ss) e) (sym c.deref.ensures.value) i) same)) own)
@@ -75,6 +75,6 @@ returns-in-Ok-clause-fresh c =
 pub returns-clause-fresh : goal.returns-clause-fresh
 unfolding documents_in
 returns-clause-fresh c =
-    given_up c.args.self.now _ c.release_made.new.self (claimed_uris c.deref-in-Err.result.now) (c.in-Err.ensures.kept ∙ c.claim.ensures.same)
+    given_up c.args.self.now _ c.release_new_claims.new.self (claimed_uris c.deref-in-Err.result.now) (c.in-Err.ensures.kept ∙ c.claim.ensures.same)
     (subst (λ ps. ClaimsOnly c.args.self.now.claims (claimed_uris ps) c.claim.new.self.claims) (c.deref-3.ensures.value ∙ sym c.deref-in-Err.ensures.value) c.in_ok-claim.ensures.only)
-    c.release_made.ensures.released
+    c.release_new_claims.ensures.released

@@ -1,5 +1,5 @@
 use Rattle.std.proofs.Common.{ap}
-use Rattle.tenant_hub.proofs.KeptLinks.{none_kept}
+use Rattle.tenant_hub.proofs.CachedLinks.{none_kept}
 use Rattle.tenant_hub.proofs.links.Links.clear.Goals as goal
 
 pub returns : goal.returns

@@ -1,4 +1,4 @@
-use Rattle.tenant_hub.proofs.KeptLinks.{put}
+use Rattle.tenant_hub.proofs.CachedLinks.{put}
 use Rattle.tenant_hub.proofs.links.Links.keep.Goals as goal
 
 pub returns-then-is_ok : goal.returns-then-is_ok

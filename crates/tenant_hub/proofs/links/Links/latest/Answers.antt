@@ -2,7 +2,7 @@ use Rattle.std.proofs.Common.{sym, ap, ◌∙◌}
 use Rattle.std.proofs.lemmas.Slice.Eq.{bytes_eq-Decides}
 use Rattle.std.specs.Prelude.{option_map}
 use Rattle.std.specs.Map.Iter.{deref_pair}
-use Rattle.tenant_hub.proofs.KeptLinks.{first}
+use Rattle.tenant_hub.proofs.CachedLinks.{first}
 use Rattle.tenant_hub.proofs.links.Links.latest.Goals as goal
 
 pub returns-in-Some : goal.returns-in-Some

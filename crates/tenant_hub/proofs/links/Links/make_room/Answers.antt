@@ -1,5 +1,5 @@
 use Rattle.std.proofs.Common.{sym}
-use Rattle.tenant_hub.proofs.KeptLinks.{fewer, left}
+use Rattle.tenant_hub.proofs.CachedLinks.{fewer, left}
 use Rattle.tenant_hub.proofs.links.Links.make_room.Goals as goal
 
 pub loop-self-init : goal.loop-self-init

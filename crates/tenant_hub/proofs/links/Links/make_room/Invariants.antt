@@ -1,6 +1,6 @@
 use Rattle.std.proofs.Common.{List, length}
 use Rattle.definitions.specs.Schemas.{Document}
-use Rattle.tenant_hub.specs.KeptLinks.{AreLinksOf}
+use Rattle.tenant_hub.specs.CachedLinks.{AreLinksOf}
 use Rattle.tenant_hub.proofs.links.Links.make_room.Given as goal
 
 abbrev pub invariant-loop-self : goal.invariant-loop-self

@@ -1,5 +1,5 @@
 use Rattle.lru.proofs.CallerLemmas.{Contains-promoted}
-use Rattle.tenant_hub.specs.KeptLinks.{AreLinksOf}
+use Rattle.tenant_hub.specs.CachedLinks.{AreLinksOf}
 use Rattle.tenant_hub.proofs.links.Links.promote.Goals as goal
 
 pub returns-then-is_none : goal.returns-then-is_none

@@ -9,4 +9,4 @@ pub returns-then-mark-eq48 : goal.returns-then-mark-eq48
 returns-then-mark-eq48 c =
     let name = c.args.name.now in
     let plain : list_all is_plain name ≡ true = ap (list_all is_plain) (sym c.as_bytes.ensures.value) ∙ c.mark_of-mark.ensures.plain (omega (arith, c.if-mark-eq48.true)) in
-    plain_pushed c.args.notation name (buffer_text c.args.self.now.text) (buffer_text c.push_led.new.self) plain c.in_ok-push_led.ensures
+    plain_pushed c.args.notation name (buffer_text c.args.self.now.text) (buffer_text c.push_prefixed.new.self) plain c.in_ok-push_prefixed.ensures

@@ -7,7 +7,7 @@ use Rattle.applicators.specs.Subjects.{subject_value}
 use Rattle.evaluation_context.specs.Frames.{context_view, frame_standing}
 use Rattle.evaluation_context.specs.Returns.{CameFrom}
 use Rattle.evaluation_context.specs.Standings.{at_keyword}
-use Rattle.evaluator.specs.Applying.{AreKnown, HasParts, HasUses, use_here}
+use Rattle.evaluator.specs.Applying.{AreKnown, HasParts, HasUses, use_now}
 use Rattle.evaluator.specs.Findings.{FindsAll}
 use Rattle.evaluator.specs.Logs.{log_view}
 use Rattle.evaluator.specs.Notes.{IsOver, notes_of_both, parts_notes, part_notes}
@@ -23,35 +23,35 @@ use Rattle.evaluator.proofs.PlannedLaws.{none_found, passing_within, child_more,
 use Rattle.applicators.specs.Plans.{planned_view}
 use Rattle.evaluator.proofs.applying.Evaluation.+apply.Goals as goal
 
-pub use_keyword-returns-in-Ok-clause-said : goal.use_keyword-returns-in-Ok-clause-said
-use_keyword-returns-in-Ok-clause-said t c a used =
+pub use_keyword-returns-in-Ok-clause-outcome : goal.use_keyword-returns-in-Ok-clause-outcome
+use_keyword-returns-in-Ok-clause-outcome t c a used =
     let old = c.args.self.now in
     let l = old.linked.now in
     let left = c.args.nesting in
     let keyword = c.args.keyword in
     let k = (row_of keyword).name in
     let m = (row_of keyword).meaning in
-    let s = value c.args.here.now.present.now.schema.now in
-    let x = subject_value c.args.here.now.subject in
+    let s = value c.args.schema_use.now.present.now.schema.now in
+    let x = subject_value c.args.schema_use.now.subject in
     let v = value c.args.keyword_value.now in
     let ps = c.in_ok-planned.planned.items in
     let same = c.in_ok-planned.ensures.linked in
     let plan = c.in_ok-planned.ensures.planned a left used in
-    let there = c.in_ok-enter_keyword.ensures.there ∙ ap (λ here. at_keyword k (frame_standing here)) c.in_ok-planned.ensures.back in
-    let here = at_keyword_of l left (context_view old.context) (context_view c.enter_keyword.new.self) s x keyword v c.args.beside a used.here there used.knows used.valued in
-    let names = names_since c.args.here.now.before (log_view old.log) in
-    let indexes = indexes_since c.args.here.now.before (log_view old.log) in
-    let applied = c.in-Ok.ensures.said a here.under (subst (λ (b : Bor Linked). AreKnown b.now k a ps) (sym same) plan.known) in
+    let there = c.in_ok-enter_keyword.ensures.there ∙ ap (λ frame. at_keyword k (frame_standing frame)) c.in_ok-planned.ensures.back in
+    let standing = at_keyword_of l left (context_view old.context) (context_view c.enter_keyword.new.self) s x keyword v c.args.siblings a used.schema_use there used.knows used.valued in
+    let names = names_since c.args.schema_use.now.before (log_view old.log) in
+    let indexes = indexes_since c.args.schema_use.now.before (log_view old.log) in
+    let applied = c.in-Ok.ensures.outcome a standing.under (subst (λ (b : Bor Linked). AreKnown b.now k a ps) (sym same) plan.known) in
     let finds = subst (FindsAll c.in-Ok.applied) plan.outcomes (subst (λ (b : Bor Linked). FindsAll c.in-Ok.applied (part_outcomes b.now left k a ps)) same applied.found) in
     let noted = subst (λ (b : Bor Linked). log_view c.apply_all.new.self.log ≡ notes_of_both (log_view c.plan_keyword.new.self.log) (parts_notes m (part_outcomes b.now left k a ps))) same applied.noted
     ∙ ap (λ log. notes_of_both (log_view log) (parts_notes m (part_outcomes l left k a ps))) c.in_ok-planned.ensures.noted
     ∙ ap (λ os. notes_of_both (log_view old.log) (parts_notes m os)) plan.outcomes in
-    let finishing = subst (λ f. IsAtKeyword l left f s x keyword v c.args.beside a) (sym c.in-Ok.ensures.stays.back) here in
-    let finished = subst (λ (b : Bor Linked). IsAtKeyword b.now left (context_view c.apply_all.new.self.context) s x keyword v c.args.beside a
+    let finishing = subst (λ f. IsAtKeyword l left f s x keyword v c.args.siblings a) (sym c.in-Ok.ensures.stays.back) standing in
+    let finished = subst (λ (b : Bor Linked). IsAtKeyword b.now left (context_view c.apply_all.new.self.context) s x keyword v c.args.siblings a
     → FindsAll c.in-Ok.applied (use_there b.now left a keyword names indexes v).outcomes
     → log_view c.apply_all.new.self.log ≡ notes_of_both (log_view old.log) (parts_notes m (use_there b.now left a keyword names indexes v).outcomes)
     → HasUses old c.finish_keyword.new.self c.finish_keyword.result a (use_there b.now left a keyword names indexes v ∷ [])) (c.in-Ok.ensures.stays.linked ∙ same)
-    (λ at finds noted. c.finish_keyword.ensures.said a left names indexes old at finds c.mark-mark.ensures noted) in
+    (λ at finds noted. c.finish_keyword.ensures.outcome a left names indexes old at finds c.mark-mark.ensures noted) in
     finished finishing finds noted
 
 pub use_keyword-returns-in-Ok-clause-passing : goal.use_keyword-returns-in-Ok-clause-passing
@@ -62,36 +62,36 @@ use_keyword-returns-in-Ok-clause-passing t c a used =
     let keyword = c.args.keyword in
     let k = (row_of keyword).name in
     let m = (row_of keyword).meaning in
-    let s = value c.args.here.now.present.now.schema.now in
-    let x = subject_value c.args.here.now.subject in
+    let s = value c.args.schema_use.now.present.now.schema.now in
+    let x = subject_value c.args.schema_use.now.subject in
     let v = value c.args.keyword_value.now in
     let ps = c.in_ok-planned.planned.items in
     let same = c.in_ok-planned.ensures.linked in
     let plan = c.in_ok-planned.ensures.planned a left used in
-    let there = c.in_ok-enter_keyword.ensures.there ∙ ap (λ here. at_keyword k (frame_standing here)) c.in_ok-planned.ensures.back in
-    let here = at_keyword_of l left (context_view old.context) (context_view c.enter_keyword.new.self) s x keyword v c.args.beside a used.here there used.knows used.valued in
-    let applied = c.in-Ok.ensures.said a here.under (subst (λ (b : Bor Linked). AreKnown b.now k a ps) (sym same) plan.known) in
+    let there = c.in_ok-enter_keyword.ensures.there ∙ ap (λ frame. at_keyword k (frame_standing frame)) c.in_ok-planned.ensures.back in
+    let standing = at_keyword_of l left (context_view old.context) (context_view c.enter_keyword.new.self) s x keyword v c.args.siblings a used.schema_use there used.knows used.valued in
+    let applied = c.in-Ok.ensures.outcome a standing.under (subst (λ (b : Bor Linked). AreKnown b.now k a ps) (sym same) plan.known) in
     let finds = subst (FindsAll c.in-Ok.applied) plan.outcomes (subst (λ (b : Bor Linked). FindsAll c.in-Ok.applied (part_outcomes b.now left k a ps)) same applied.found) in
-    on_ok_weaker c.finish_keyword.result (λ is. use_passing c.finish_keyword.new.self.passing c.in-Ok.applied (use_here old c.args.here.now keyword v left a) is finds) c.finish_keyword.ensures.passing
+    on_ok_weaker c.finish_keyword.result (λ is. use_passing c.finish_keyword.new.self.passing c.in-Ok.applied (use_now old c.args.schema_use.now keyword v left a) is finds) c.finish_keyword.ensures.passing
 
-pub use_keyword-returns-in-Err-clause-said : goal.use_keyword-returns-in-Err-clause-said
-use_keyword-returns-in-Err-clause-said t c a used =
+pub use_keyword-returns-in-Err-clause-outcome : goal.use_keyword-returns-in-Err-clause-outcome
+use_keyword-returns-in-Err-clause-outcome t c a used =
     let old = c.args.self.now in
     let l = old.linked.now in
     let left = c.args.nesting in
     let keyword = c.args.keyword in
     let k = (row_of keyword).name in
     let m = (row_of keyword).meaning in
-    let s = value c.args.here.now.present.now.schema.now in
-    let x = subject_value c.args.here.now.subject in
+    let s = value c.args.schema_use.now.present.now.schema.now in
+    let x = subject_value c.args.schema_use.now.subject in
     let v = value c.args.keyword_value.now in
     let ps = c.in_ok-planned.planned.items in
     let same = c.in_ok-planned.ensures.linked in
     let plan = c.in_ok-planned.ensures.planned a left used in
-    let there = c.in_ok-enter_keyword.ensures.there ∙ ap (λ here. at_keyword k (frame_standing here)) c.in_ok-planned.ensures.back in
-    let here = at_keyword_of l left (context_view old.context) (context_view c.enter_keyword.new.self) s x keyword v c.args.beside a used.here there used.knows used.valued in
+    let there = c.in_ok-enter_keyword.ensures.there ∙ ap (λ frame. at_keyword k (frame_standing frame)) c.in_ok-planned.ensures.back in
+    let standing = at_keyword_of l left (context_view old.context) (context_view c.enter_keyword.new.self) s x keyword v c.args.siblings a used.schema_use there used.knows used.valued in
     let n = log_view old.log in
-    let halted = c.in-Err.ensures.said a here.under (subst (λ (b : Bor Linked). AreKnown b.now k a ps) (sym same) plan.known) in
+    let halted = c.in-Err.ensures.outcome a standing.under (subst (λ (b : Bor Linked). AreKnown b.now k a ps) (sym same) plan.known) in
     record {
       found = tt;
       noted = tt;
@@ -99,7 +99,7 @@ use_keyword-returns-in-Err-clause-said t c a used =
           λ other.
           let fault = halted.err other in (
             fault.0,
-            use_over a n m (use_here old c.args.here.now keyword v left a)
+            use_over a n m (use_now old c.args.schema_use.now keyword v left a)
                 (subst (λ os. IsOver n (parts_notes m os)) plan.outcomes
                 (subst (λ (b : Bor Linked). IsOver n (parts_notes m (part_outcomes b.now left k a ps))) same
                 (subst (λ (log : Log). IsOver (log_view log) (parts_notes m (part_outcomes c.plan_keyword.new.self.linked.now left k a ps))) c.in_ok-planned.ensures.noted fault.1))),
@@ -136,7 +136,7 @@ apply_all-loop-one-preserved t c =
           let here : IsKnown c.loop-one.self.linked.now k a p = subst (λ (l : Bor Linked). IsKnown l.now k a p) (sym same) (known p inside) in
           let there : IsUnder (context_view c.loop-one.self.context) k a = ap frame_standing c.loop-one.invariant.back ∙ under in
           child_more c.loop-one.applied c.and-applied.result c.in-Ok.valid (part_outcome old.linked.now c.args.nesting k a) items i p (omega arith) c.one-item.is (c.loop-one.invariant.found a under known)
-          (subst (λ (l : Bor Linked). c.in-Ok.valid ≡ (part_outcome l.now c.args.nesting k a p).1.valid) same (c.in-Ok.ensures.said a there here).found) c.and-applied.ensures;
+          (subst (λ (l : Bor Linked). c.in-Ok.valid ≡ (part_outcome l.now c.args.nesting k a p).1.valid) same (c.in-Ok.ensures.outcome a there here).found) c.and-applied.ensures;
       noted =
           λ a under known.
           let inside : Contains c.args.planned.now.items p = subst (λ ps. Contains ps p) c.deref-one-items.ensures.value (i, omega arith, sym c.one-item.is) in
@@ -144,11 +144,11 @@ apply_all-loop-one-preserved t c =
           let there : IsUnder (context_view c.loop-one.self.context) k a = ap frame_standing c.loop-one.invariant.back ∙ under in
           child_noted m (log_view old.log) (log_view c.loop-one.self.log) (log_view c.apply_part.new.self.log) (part_outcome old.linked.now c.args.nesting k a) items i p (omega arith) c.one-item.is
           (c.loop-one.invariant.noted a under known)
-          (subst (λ (l : Bor Linked). log_view c.apply_part.new.self.log ≡ notes_of_both (log_view c.loop-one.self.log) (part_notes m (part_outcome l.now c.args.nesting k a p))) same (c.in-Ok.ensures.said a there here).noted);
+          (subst (λ (l : Bor Linked). log_view c.apply_part.new.self.log ≡ notes_of_both (log_view c.loop-one.self.log) (part_notes m (part_outcome l.now c.args.nesting k a p))) same (c.in-Ok.ensures.outcome a there here).noted);
     }
 
-pub apply_all-returns-in-Err-clause-said : goal.apply_all-returns-in-Err-clause-said
-apply_all-returns-in-Err-clause-said t c a under known =
+pub apply_all-returns-in-Err-clause-outcome : goal.apply_all-returns-in-Err-clause-outcome
+apply_all-returns-in-Err-clause-outcome t c a under known =
     let old = c.args.self.now in
     let k = (row_of c.args.keyword).name in
     let m = (row_of c.args.keyword).meaning in
@@ -164,7 +164,7 @@ apply_all-returns-in-Err-clause-said t c a under known =
       noted = tt;
       err =
           λ other.
-          let fault = (c.in-Err.ensures.said a there here).err other in (
+          let fault = (c.in-Err.ensures.outcome a there here).err other in (
             fault.0,
             rw (← c.deref-one-items.ensures.value)
                 (child_over m (log_view old.log) (log_view c.loop-one.self.log) (part_outcome old.linked.now c.args.nesting k a) items i p (omega arith) c.one-item.is (c.loop-one.invariant.noted a under known)
@@ -172,8 +172,8 @@ apply_all-returns-in-Err-clause-said t c a under known =
           );
     }
 
-pub apply_all-returns-clause-said : goal.apply_all-returns-clause-said
-apply_all-returns-clause-said t c a under known =
+pub apply_all-returns-clause-outcome : goal.apply_all-returns-clause-outcome
+apply_all-returns-clause-outcome t c a under known =
     let whole = take_all c.loop-one.one-index c.deref-one-items.result.now c.loop-one-test.false ∙ c.deref-one-items.ensures.value in
     subst (λ ps. HasParts c.args.self.now c.loop-one.self (Ok c.loop-one.applied) (row_of c.args.keyword).meaning (part_outcomes c.args.self.now.linked.now c.args.nesting (row_of c.args.keyword).name a ps)) whole
     (record { found = c.loop-one.invariant.found a under known; noted = c.loop-one.invariant.noted a under known; err = tt })
@@ -186,21 +186,21 @@ apply_entered-returns-in-Ok-clause-stays t c = record {
       (subst (CameFrom c.in_ok-back.back (context_view c.args.self.now.context)) (sym c.in-Ok.ensures.stays.back) c.in_ok-back.ensures.entered);
 }
 
-pub apply_entered-returns-in-Ok-clause-said : goal.apply_entered-returns-in-Ok-clause-said
-apply_entered-returns-in-Ok-clause-said t c a k under known =
+pub apply_entered-returns-in-Ok-clause-outcome : goal.apply_entered-returns-in-Ok-clause-outcome
+apply_entered-returns-in-Ok-clause-outcome t c a k under known =
     let p = c.args.planned.now in
     let child = (planned_view k a p).1 in
     let here : IsKnown (scope_documents c.args.self.now.context.scope).now k a p = subst (λ (l : Bor Linked). IsKnown l.now k a p) (sym c.args.self.now.followed) known in
     let at : IsAt c.args.self.now.linked.now (context_view c.enter_planned.new.self) (value c.of-present.result.schema.now) (subject_value p.subject) child =
     planned_at c.args.self.now.linked.now (context_view c.enter_planned.new.self) k a p (value c.of-present.result.schema.now) (c.in_ok-back.ensures.there a k (c.identifier.ensures ∙ ap (λ d. text_at (codes "$id") (value d)) c.of-present.ensures) under here.inside here.planned) (ap value c.of-present.ensures) known in
-    let said = c.in-Ok.ensures.said child at in
-    record { found = said.found; noted = said.noted; err = tt }
+    let outcome = c.in-Ok.ensures.outcome child at in
+    record { found = outcome.found; noted = outcome.noted; err = tt }
 
-pub apply_entered-returns-in-Err-clause-said : goal.apply_entered-returns-in-Err-clause-said
-apply_entered-returns-in-Err-clause-said t c a k under known =
+pub apply_entered-returns-in-Err-clause-outcome : goal.apply_entered-returns-in-Err-clause-outcome
+apply_entered-returns-in-Err-clause-outcome t c a k under known =
     let p = c.args.planned.now in
     let child = (planned_view k a p).1 in
     let here : IsKnown (scope_documents c.args.self.now.context.scope).now k a p = subst (λ (l : Bor Linked). IsKnown l.now k a p) (sym c.args.self.now.followed) known in
     let at : IsAt c.args.self.now.linked.now (context_view c.enter_planned.new.self) (value c.of-present.result.schema.now) (subject_value p.subject) child =
     planned_at c.args.self.now.linked.now (context_view c.enter_planned.new.self) k a p (value c.of-present.result.schema.now) (c.in_ok-back.ensures.there a k (c.identifier.ensures ∙ ap (λ d. text_at (codes "$id") (value d)) c.of-present.ensures) under here.inside here.planned) (ap value c.of-present.ensures) known in
-    record { found = tt; noted = tt; err = (c.in-Err.ensures.said child at).err }
+    record { found = tt; noted = tt; err = (c.in-Err.ensures.outcome child at).err }

@@ -12,11 +12,11 @@ use Rattle.keyword_plans.specs.ObjectApplications.{linked_rules}
 use Rattle.keywords.specs.declared.keyword.Keyword.{Keyword}
 use Rattle.keyword_plans.specs.Plans.{is_consequence, counts_contained}
 use Rattle.evaluator.specs.Groups.{stands_alone}
-use Rattle.evaluator.specs.Notes.{Notes}
+use Rattle.evaluation_log.specs.Notes.{Notes}
 use Rattle.evaluator.specs.Rounds.{Knows, group_uses, linked_outcome, uses_since, names_since, indexes_since}
 use Rattle.evaluator.specs.declared.siblings.Siblings.{Siblings}
 use Rattle.keywords.specs.declared.group.Group.TheVariants.{One}
-use Rattle.evaluator.specs.declared.log.Before.{Before}
+use Rattle.evaluation_log.specs.declared.log.Before.{Before}
 
 same_applied : (rules : Rules) (run : Application → Outcome) (names : List Text) (indexes : List ℕ) (a : Application) (k : Text) (m : Meaning) (v : Value)
     → looks_at_evaluated m ≡ false → keyword_applications rules run names indexes a k m v ≡ keyword_applications rules run [] [] a k m v

@@ -15,9 +15,9 @@ use Rattle.keywords.specs.Rows.{row_of}
 use Rattle.keywords.specs.declared.keyword.Keyword.{Keyword}
 use Rattle.keywords.specs.declared.group.Group.TheVariants.{One}
 use Rattle.keyword_plans.specs.ObjectApplications.{linked_rules}
-use Rattle.evaluator.specs.Notes.{error_texts, no_notes, uses_notes}
+use Rattle.evaluation_log.specs.Notes.{error_texts, no_notes, uses_notes}
 use Rattle.evaluator.specs.Rounds.{group_uses, linked_outcome}
-use Rattle.evaluator.proofs.LogLaws.{same_notes}
+use Rattle.evaluation_log.proofs.LogLaws.{same_notes}
 
 meaning_is : (m : Meaning) (x : meaning.Assertion) → Some x ≡ assertion_in m → m ≡ asserts x
 meaning_is (asserts y) x e = let same : x ≡ y = cc in ap asserts (sym same)

@@ -11,10 +11,10 @@ use Rattle.basic_output.specs.Pieces.{unit_text}
 use Rattle.linker.specs.declared.linked.Linked.{Linked}
 use Rattle.evaluation_context.specs.Frames.{Frame, frame_standing}
 use Rattle.evaluation_context.specs.Standings.{Standing, application_at, standing_of, within_object}
-use Rattle.evaluator.specs.Notes.{IsOver, Notes, annotation_texts, error_texts, lengths, kept_annotations, notes_of_both, object_notes, one_application, outcome_notes, uses_notes}
-use Rattle.evaluator.specs.Tallies.{no_tally, outcome_tally, tally_of_both, uses_tally}
+use Rattle.evaluation_log.specs.Notes.{IsOver, Notes, annotation_texts, error_texts, lengths, kept_annotations, notes_of_both, object_notes, one_application, outcome_notes, uses_notes}
+use Rattle.evaluation_log.specs.Tallies.{no_tally, outcome_tally, tally_of_both, uses_tally}
 use Rattle.evaluator.specs.Rounds.{IsAt}
-use Rattle.evaluator.proofs.LogLaws.{added_twice, annotated, mapped_all, same_lengths, same_notes, same_tallies, tallied_nothing}
+use Rattle.evaluation_log.proofs.LogLaws.{added_twice, annotated, mapped_all, same_lengths, same_notes, same_tallies, tallied_nothing}
 
 -- ---- uses that all pass
 no_errors : (a : Application) (us : List Use) → list_all (λ u. u.passes) us ≡ true → flat_map (λ u. error_texts (use_errors a u)) us ≡ []

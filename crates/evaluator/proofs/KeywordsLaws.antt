@@ -4,9 +4,9 @@ use Rattle.definitions.specs.Applied.{Application}
 use Rattle.linker.specs.declared.linked.Linked.{Linked}
 use Rattle.keywords.specs.declared.keyword.Keyword.TheVariants.{UnevaluatedItems, UnevaluatedProperties}
 use Rattle.evaluator.specs.Groups.{first_groups}
-use Rattle.evaluator.specs.Notes.{Notes, notes_of_both, uses_notes}
+use Rattle.evaluation_log.specs.Notes.{Notes, notes_of_both, uses_notes}
 use Rattle.evaluator.specs.Rounds.{evaluated_in, groups_uses, object_uses, two_uses, unevaluated_uses}
-use Rattle.evaluator.specs.declared.log.Before.{Before}
+use Rattle.evaluation_log.specs.declared.log.Before.{Before}
 use Rattle.evaluator.proofs.UnevaluatedLaws.{both_after}
 
 pub last_uses : (l : Linked) (left : ℕ) (a : Application) (before : Before) (n mid : Notes) → before ≡ evaluated_in n → mid ≡ notes_of_both n (uses_notes a (groups_uses l left a first_groups))

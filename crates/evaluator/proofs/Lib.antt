@@ -1,5 +1,4 @@
 pub mod AnnotatingLaws
-pub mod LogLaws
 pub mod OutcomeLaws
 pub mod PlannedLaws
 pub mod UseLaws
@@ -18,5 +17,4 @@ pub mod LeafLaws
 pub mod DollarLaws
 pub mod AssertedLaws
 pub mod SilenceLaws
-pub mod CountLaws
 pub mod MetLaws

@@ -16,7 +16,7 @@ use Rattle.linker.specs.declared.linked.Linked.{Linked}
 use Rattle.keywords.specs.Rows.{row_of}
 use Rattle.keyword_plans.specs.ObjectApplications.{linked_rules}
 use Rattle.keywords.specs.declared.keyword.Keyword.TheVariants.{UnevaluatedItems, UnevaluatedProperties}
-use Rattle.evaluator.specs.Tallies.{uses_tally}
+use Rattle.evaluation_log.specs.Tallies.{uses_tally}
 use Rattle.evaluator.specs.Groups.{first_groups, rows_of}
 use Rattle.keywords.specs.Groups.{group_number, groups_before, in_order}
 use Rattle.evaluator.specs.Rounds.{groups_uses, linked_outcome, object_uses, unevaluated_uses}

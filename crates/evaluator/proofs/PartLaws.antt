@@ -9,7 +9,7 @@ use Rattle.definitions.specs.Targets.{target, dynamic_target}
 use Rattle.definitions.specs.Keywords.{Meaning, asserts, matches_pattern, refers, refers_dynamically, all_of, any_of, one_of, negation, condition, consequence, dependent_schemas, prefix_items, items, contains, min_contains, max_contains, properties, pattern_properties, additional_properties, property_names, unevaluated_items, unevaluated_properties, declares}
 use Rattle.definitions.specs.Applied.{Application, Outcome, OutputUnit, Part, Rules, whole, named, indexed, name_of, keyword_applications, at_part, at_present, siblings, consequence_of, condition_outcome, is_taken, to_target, has}
 use Rattle.definitions.specs.Evaluated.{outcomes_that_pass, outcomes_that_fail, part_names, part_indexes, is_in_place, evaluated_names, evaluated_indexes}
-use Rattle.evaluator.specs.Notes.{names_from, indexes_from, needs_to_pass, evaluates}
+use Rattle.evaluation_log.specs.Notes.{names_from, indexes_from, needs_to_pass, evaluates}
 
 -- ---- the parts that a keyword applies schemas to: all in place, or none
 abbrev same : Bool → Bool → Bool

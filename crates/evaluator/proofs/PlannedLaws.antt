@@ -22,11 +22,11 @@ use Rattle.applicators.specs.declared.planned.Way.TheVariants.{Own, Member, Elem
 use Rattle.evaluation_context.specs.Frames.{Frame, frame_standing}
 use Rattle.evaluation_context.specs.Standings.{Standing, application_at, standing_of}
 use Rattle.evaluator.specs.Findings.{FindsAll, Outcomes}
-use Rattle.evaluator.specs.Notes.{IsOver, Notes, notes_of_both, part_notes, parts_notes}
-use Rattle.evaluator.specs.Tallies.{Tally, outcome_tally, parts_tally, tally_of_both}
+use Rattle.evaluation_log.specs.Notes.{IsOver, Notes, notes_of_both, part_notes, parts_notes}
+use Rattle.evaluation_log.specs.Tallies.{Tally, outcome_tally, parts_tally, tally_of_both}
 use Rattle.evaluator.specs.Rounds.{IsAt, IsKnown}
 use Rattle.evaluator.specs.declared.applied.Applied.{Applied}
-use Rattle.evaluator.proofs.LogLaws.{added_twice, same_notes, same_tallies, tally_of}
+use Rattle.evaluation_log.proofs.LogLaws.{added_twice, same_notes, same_tallies, tally_of}
 
 -- ---- where a planned application stands
 pub schema_value_planned : (k : Text) (a : Application) (way : Way) (v : Value) (part : definition.Part) (x : Value) → (way_application k a way v part x).schema.value ≡ v

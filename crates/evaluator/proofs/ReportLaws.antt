@@ -27,14 +27,14 @@ use Rattle.linker.specs.declared.linked.Linked.{Linked}
 use Rattle.keyword_plans.specs.ObjectApplications.{linked_rules}
 use Rattle.evaluation_context.specs.Frames.{Frame, frame_standing}
 use Rattle.evaluation_context.specs.Standings.{application_at}
-use Rattle.evaluator.specs.Logs.{log_view}
-use Rattle.evaluator.specs.Notes.{IsOver, Notes, no_notes, notes_of_both, outcome_notes}
+use Rattle.evaluation_log.specs.Logs.{log_view}
+use Rattle.evaluation_log.specs.Notes.{IsOver, Notes, no_notes, notes_of_both, outcome_notes}
 use Rattle.evaluator.specs.declared.report.Report.{Report}
 use Rattle.evaluator.specs.Reports.{Gives, GivesOutput, is_valid, report_or_fault, report_text}
 use Rattle.evaluator.specs.Roots.{StandsAtRoot}
 use Rattle.evaluator.specs.Rounds.{IsAt, linked_outcome}
-use Rattle.evaluator.specs.declared.log.Log.{Log}
-use Rattle.evaluator.proofs.LogLaws.{nothing_added}
+use Rattle.evaluation_log.specs.declared.log.Log.{Log}
+use Rattle.evaluation_log.proofs.LogLaws.{nothing_added}
 
 -- ---- the answer of an outcome
 pub answer_loop : (most : ℕ) (o : Outcome) → o.count ≤ most → o.looped ≡ true → answer_of most o ≡ Err loop

@@ -29,12 +29,12 @@ use Rattle.evaluation_context.specs.Frames.{Frame, frame_standing}
 use Rattle.evaluation_context.specs.Standings.{at_keyword, standing_of, unit_there}
 use Rattle.evaluator.specs.Applying.{IsPlan}
 use Rattle.evaluator.specs.Findings.{FindsAll, passing_first}
-use Rattle.evaluator.specs.Tallies.{Tally, parts_tally, uses_tally}
+use Rattle.evaluation_log.specs.Tallies.{Tally, parts_tally, uses_tally}
 use Rattle.evaluator.specs.declared.applied.Applied.{Applied}
 use Rattle.evaluator.specs.declared.siblings.Siblings.{Siblings}
-use Rattle.evaluator.specs.Notes.{IsOver, Notes, annotation_texts, error_texts, parts_notes, uses_notes, visible_notes}
+use Rattle.evaluation_log.specs.Notes.{IsOver, Notes, annotation_texts, error_texts, parts_notes, uses_notes, visible_notes}
 use Rattle.evaluator.specs.Rounds.{IsAt, IsAtKeyword, IsKnown, IsUnder, Knows, linked_outcome, part_outcomes, use_there}
-use Rattle.evaluator.proofs.LogLaws.{mapped_all, same_notes, same_tallies}
+use Rattle.evaluation_log.proofs.LogLaws.{mapped_all, same_notes, same_tallies}
 use Rattle.evaluator.proofs.PartLaws.{annotations_of_passed, errors_of_failed, indexes_of_use, names_of_use}
 
 -- the texts of units, where they are seen

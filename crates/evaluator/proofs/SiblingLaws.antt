@@ -16,11 +16,11 @@ use Rattle.keywords.specs.declared.keyword.Keyword.{Keyword}
 use Rattle.keywords.specs.declared.keyword.Keyword.TheVariants.{If, Then, Else, Contains, MinContains, MaxContains, Properties}
 use Rattle.evaluator.specs.Findings.{passing_first}
 use Rattle.keyword_plans.specs.Plans.{is_consequence, counts_contained, takes_others}
-use Rattle.evaluator.specs.Notes.{Notes, notes_of_both, uses_notes}
+use Rattle.evaluation_log.specs.Notes.{Notes, notes_of_both, uses_notes}
 use Rattle.evaluator.specs.Rounds.{Knows, group_uses, indexes_since, keyword_uses, linked_outcome, names_since, two_uses, uses_since}
 use Rattle.evaluator.specs.declared.siblings.Siblings.{Siblings}
 use Rattle.keywords.specs.declared.group.Group.TheVariants.{One, Conditional, Counted}
-use Rattle.evaluator.specs.declared.log.Before.{Before}
+use Rattle.evaluation_log.specs.declared.log.Before.{Before}
 use Rattle.evaluator.proofs.AloneLaws.{same_used}
 
 -- ---- what `if` and `contains` found

@@ -27,13 +27,14 @@ use Rattle.evaluation_context.specs.Runnings.{is_running_as}
 use Rattle.evaluation_context.specs.Standings.{Standing, at_keyword, standing_of}
 use Rattle.evaluator.specs.Groups.{first_groups}
 use Rattle.evaluator.specs.Leaves.{IsLeaf}
-use Rattle.evaluator.specs.Notes.{no_notes, notes_of_both, one_application}
+use Rattle.evaluation_log.specs.Notes.{no_notes, notes_of_both, one_application}
 use Rattle.evaluator.specs.Rounds.{group_uses, groups_uses, linked_outcome}
-use Rattle.evaluator.specs.Silences.{AreSilent, IsSilent}
+use Rattle.evaluator.specs.Silences.{AreSilent}
+use Rattle.evaluation_log.specs.Notes.{IsSilent}
 use Rattle.evaluator.proofs.AssertedLaws.{absent_use, asserted_use, passing_notes}
 use Rattle.evaluator.proofs.CombinedLaws.{passing_object}
 use Rattle.evaluator.proofs.LeafLaws.{leaf_uses}
-use Rattle.evaluator.proofs.LogLaws.{added_nothing, annotated}
+use Rattle.evaluation_log.proofs.LogLaws.{added_nothing, annotated}
 use Rattle.evaluator.proofs.ObjectLaws.{object_by_groups}
 use Rattle.evaluator.proofs.OutcomeLaws.{outcome-boolean, outcome-object}
 use Rattle.evaluator.proofs.UseLaws.{flat_more, uses_more_notes}

@@ -4,11 +4,11 @@ use Rattle.std.proofs.lemmas.Grind.{flat_map-append}
 use Rattle.definitions.specs.Applied.{Application}
 use Rattle.definitions.specs.Outcomes.{Use}
 use Rattle.evaluator.specs.Applying.{HasUses}
-use Rattle.evaluator.specs.Logs.{log_view}
-use Rattle.evaluator.specs.Notes.{notes_of_both, uses_notes}
+use Rattle.evaluation_log.specs.Logs.{log_view}
+use Rattle.evaluation_log.specs.Notes.{notes_of_both, uses_notes}
 use Rattle.evaluator.specs.declared.applying.Evaluation.{Evaluation}
 use Rattle.evaluator.specs.declared.halt.Halt.{Halt}
-use Rattle.evaluator.proofs.LogLaws.{added_nothing, added_twice}
+use Rattle.evaluation_log.proofs.LogLaws.{added_nothing, added_twice}
 use Rattle.evaluator.proofs.PlannedLaws.{split_at}
 use Rattle.evaluator.proofs.UseLaws.{both_valid, flat_more, uses_first_over, uses_more_notes, uses_then_over}
 

@@ -11,11 +11,11 @@ use Rattle.linker.specs.declared.linked.Linked.{Linked}
 use Rattle.keywords.specs.Rows.{row_of}
 use Rattle.keywords.specs.declared.keyword.Keyword.TheVariants.{UnevaluatedItems, UnevaluatedProperties}
 use Rattle.evaluator.specs.Findings.{Outcomes}
-use Rattle.evaluator.specs.Notes.{Notes, notes_of_both, uses_notes}
+use Rattle.evaluation_log.specs.Notes.{Notes, notes_of_both, uses_notes}
 use Rattle.evaluator.specs.Rounds.{Knows, evaluated_in, indexes_since, keyword_uses, linked_outcome, names_since, two_uses, unevaluated_uses, uses_since, uses_with}
 use Rattle.evaluator.specs.declared.siblings.Siblings.{Siblings}
-use Rattle.evaluator.specs.declared.log.Before.{Before}
-use Rattle.evaluator.proofs.LogLaws.{rest_list}
+use Rattle.evaluation_log.specs.declared.log.Before.{Before}
+use Rattle.evaluation_log.proofs.LogLaws.{rest_list}
 
 -- ---- elements have no names
 abbrev at_elements : (Application → Outcome) → Application → Text → Value → List (ℕ × Value) → Outcomes

@@ -14,9 +14,9 @@ use Rattle.evaluation_context.specs.Frames.{Frame}
 use Rattle.evaluator.specs.Rounds.{IsAt}
 use Rattle.evaluator.specs.Groups.{first_groups, stands_alone}
 use Rattle.keywords.specs.Groups.{group_number, groups_before, in_order}
-use Rattle.evaluator.specs.Notes.{IsOver, Notes, error_texts, kept_annotations, notes_of_both, uses_notes}
-use Rattle.evaluator.proofs.LogLaws.{added_twice, first_over, same_notes, same_tallies, then_over}
-use Rattle.evaluator.specs.Tallies.{tally_of_both, uses_tally}
+use Rattle.evaluation_log.specs.Notes.{IsOver, Notes, error_texts, kept_annotations, notes_of_both, uses_notes}
+use Rattle.evaluation_log.proofs.LogLaws.{added_twice, first_over, same_notes, same_tallies, then_over}
+use Rattle.evaluation_log.specs.Tallies.{tally_of_both, uses_tally}
 
 pub all_at : {X : Type 0} (p : X → Bool) (xs : List X) (i : ℕ) (d : X) → list_all p xs ≡ true → i < length xs → p (get_or xs i d) ≡ true
 all_at p [] i d all h = absurd (omega arith)

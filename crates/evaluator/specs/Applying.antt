@@ -17,8 +17,8 @@ use Rattle.evaluation_context.specs.Frames.{context_view}
 use Rattle.keywords.specs.Rows.{row_of}
 use Rattle.keywords.specs.declared.keyword.Keyword.{Keyword}
 use Rattle.evaluator.specs.Findings.{FindsAll, Outcomes}
-use Rattle.evaluator.specs.Logs.{log_view}
-use Rattle.evaluator.specs.Notes.{IsOver, Notes, notes_of_both, outcome_notes, part_notes, parts_notes, uses_notes}
+use Rattle.evaluation_log.specs.Logs.{log_view}
+use Rattle.evaluation_log.specs.Notes.{IsOver, Notes, notes_of_both, outcome_notes, part_notes, parts_notes, uses_notes}
 use Rattle.evaluator.specs.Rounds.{IsAt, IsKnown, Knows, indexes_since, linked_outcome, names_since, part_outcomes, two_uses, use_there, uses_since}
 use Rattle.evaluator.specs.declared.applied.Applied.{Applied}
 use Rattle.evaluator.specs.declared.applying.Evaluation.{Evaluation}

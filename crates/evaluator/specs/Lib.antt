@@ -1,6 +1,3 @@
-pub mod Tallies
-pub mod Notes
-pub mod Logs
 pub mod Findings
 pub mod Groups
 pub mod Rounds

@@ -21,10 +21,10 @@ use Rattle.evaluation_context.specs.Frames.{Frame, frame_standing}
 use Rattle.evaluation_context.specs.Standings.{application_at, at_keyword, standing_of}
 use Rattle.evaluator.specs.Findings.{Outcomes}
 use Rattle.evaluator.specs.Groups.{first_groups, rows_of}
-use Rattle.evaluator.specs.Notes.{Notes, notes_of_both, uses_notes}
+use Rattle.evaluation_log.specs.Notes.{Notes, notes_of_both, uses_notes}
 use Rattle.evaluator.specs.declared.siblings.Siblings.{Siblings}
 use Rattle.keywords.specs.declared.group.Group.{Group}
-use Rattle.evaluator.specs.declared.log.Before.{Before}
+use Rattle.evaluation_log.specs.declared.log.Before.{Before}
 
 -- by the linked documents, where so many applications may nest
 abbrev pub linked_outcome : Linked → ℕ → Application → Outcome

@@ -1,7 +1,7 @@
 -- What passes without a word: it has no errors and no annotations, and evaluates and applies nothing.
 use Rattle.std.specs.Prelude.{◌≡◌, ◌&&◌, List, Bool, Option, Some, None, true, option_map, unwrap_or}
 use Rattle.std.specs.List.{list_all}
-use Rattle.definitions.specs.Applied.{Application, Outcome}
+use Rattle.definitions.specs.Applied.{Application}
 use Rattle.definitions.specs.Outcomes.{Use}
 use Rattle.definitions.specs.Assertions.{Assertion, holds}
 use Rattle.definitions.specs.Keywords.{Keyword}
@@ -9,13 +9,8 @@ use Rattle.definitions.specs.Values.{Text, Value}
 use Rattle.assertions.specs.AssertionView.{assertion_in}
 use Rattle.keywords.specs.Rows.{row_named}
 use Rattle.evaluator.specs.Leaves.{is_leaf_mark}
-use Rattle.evaluator.specs.Notes.{no_notes, one_application, outcome_notes, uses_notes}
+use Rattle.evaluation_log.specs.Notes.{no_notes, uses_notes}
 use Rattle.evaluator.specs.Presents.{mark_of}
-
--- the outcome of a schema that applies nothing
-pub record IsSilent (o : Outcome) : Type 0 where
-  pub passes : o.valid ≡ true
-  pub noted : outcome_notes o ≡ one_application
 
 -- the uses of its keywords
 pub record AreSilent (a : Application) (us : List Use) : Type 0 where

@@ -13,17 +13,17 @@ ghost use Rattle.json_doc.specs.NamedMembers.{name_text};
 ghost use Rattle.evaluation_context.specs.Frames.{context_view, frame_standing};
 ghost use Rattle.evaluation_context.specs.Standings.{standing_of};
 ghost use Rattle.evaluator.specs.Annotations.{annotations_among};
-ghost use Rattle.evaluator.specs.Logs.{log_view};
-ghost use Rattle.evaluator.specs.Notes.{annotation_texts, no_notes, notes_of_both};
+ghost use Rattle.evaluation_log.specs.Logs.{log_view};
+ghost use Rattle.evaluation_log.specs.Notes.{annotation_texts, no_notes, notes_of_both};
 ghost use Rattle.applicators.specs.Subjects.{subject_value};
 ghost use Rattle.keyword_plans.specs.ScopeViews.{scope_documents};
 
 use crate::dollar_names::{are_many, cut_at_dollar_names};
-use crate::log::Log;
 use crate::present::Present;
 use applicators::Subject;
 use basic_output::Says;
 use evaluation_context::Context;
+use evaluation_log::Log;
 use json_doc::{Doc, Members, MembersIter, Name};
 use std::alloc::AllocError;
 

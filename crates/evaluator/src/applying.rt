@@ -8,7 +8,6 @@ ghost use Rattle.keyword_plans.specs.ScopeViews.{scope_documents};
 ghost use Rattle.keyword_plans.specs.SearchedIn.{searched_in};
 
 use crate::halt::Halt;
-use crate::log::Log;
 use crate::memory::EvaluationMemory;
 use crate::present::Present;
 use crate::schema_use::SchemaUse;
@@ -16,6 +15,7 @@ use crate::settling_object::settle_object;
 use applicators::{PlanMemory, Subject};
 use basic_output::Says;
 use evaluation_context::Context;
+use evaluation_log::Log;
 use json_doc::Doc;
 use keyword_plans::{Enumerations, Searches};
 use keywords::KEYWORDS;
@@ -57,7 +57,7 @@ impl<'a> Evaluation<'a> {
     ghost use Rattle.evaluation_context.specs.Frames.{context_view, frame_standing};
     ghost use Rattle.evaluation_context.specs.Standings.{application_at};
     ghost use Rattle.evaluator.specs.Applying.{Adds, Applies, AppliesToWhole, HasOutcome, Stays, linked_object_outcome};
-    ghost use Rattle.evaluator.specs.Notes.{outcome_notes};
+    ghost use Rattle.evaluation_log.specs.Notes.{outcome_notes};
     ghost use Rattle.evaluator.specs.Rounds.{boolean_at, linked_outcome, root_outcome};
 
     /// At this place, with what is noted so far. No keyword has been evaluated yet.

@@ -25,7 +25,7 @@ impl<'a> Evaluation<'a> {
     ghost use Rattle.evaluation_context.specs.Frames.{context_view, frame_standing};
     ghost use Rattle.evaluation_context.specs.Standings.{standing_of};
     ghost use Rattle.evaluator.specs.Applying.{Adds, HasUses, IsApplicationOf, IsUntouched, Stays};
-    ghost use Rattle.evaluator.specs.Notes.{error_texts, no_notes};
+    ghost use Rattle.evaluation_log.specs.Notes.{error_texts, no_notes};
     ghost use Rattle.evaluator.specs.Rounds.{group_uses};
 
     /// A keyword that makes this assertion: it applies nothing. The only error is want of memory.

@@ -11,7 +11,6 @@ mod evaluator;
 mod groups;
 mod halt;
 mod leaves;
-mod log;
 mod memory;
 mod object_keywords;
 mod one_keyword;

@@ -1,7 +1,7 @@
 //! The memory that an evaluation works in.
 
-use crate::log::LogMemory;
 use evaluation_context::ContextMemory;
+use evaluation_log::LogMemory;
 use output_texts::{NotedUnits, Output};
 use std::alloc::Global;
 

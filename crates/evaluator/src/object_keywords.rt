@@ -20,7 +20,7 @@ impl<'a> Evaluation<'a> {
     ghost use Rattle.keywords.specs.declared.group.Group.TheVariants.{One, Conditional, Counted};
     ghost use Rattle.keywords.specs.declared.keyword.Keyword.TheVariants.{Properties};
     ghost use Rattle.keyword_plans.specs.Applications.{named_count};
-    ghost use Rattle.evaluator.specs.Logs.{log_view};
+    ghost use Rattle.evaluation_log.specs.Logs.{log_view};
     ghost use Rattle.evaluator.specs.Rounds.{Knows, evaluated_in, group_uses, groups_uses, object_uses};
 
     /// All keywords of a schema object, and last those that look at what the others evaluated: whether all pass.

@@ -6,12 +6,12 @@ ghost use Rattle.json_doc.specs.Docs.{value};
 use crate::applied::Applied;
 use crate::applying::Evaluation;
 use crate::halt::Halt;
-use crate::log::LogMark;
 use crate::present::Present;
 use crate::schema_use::SchemaUse;
 use crate::settling::{evaluated_for, settle};
 use crate::siblings::Siblings;
 use applicators::Planned;
+use evaluation_log::LogMark;
 use json_doc::Doc;
 use keyword_plans::{Earlier, ObjectApplication, passes, plan, surely_applies_nothing};
 use keywords::{KEYWORDS, Keyword};
@@ -28,8 +28,8 @@ impl<'a> Evaluation<'a> {
     ghost use Rattle.evaluator.specs.declared.applying.Evaluation.{Evaluation};
     ghost use Rattle.evaluator.specs.Applying.{Adds, AreKnown, HasOutcome, HasPart, HasParts, HasUses, IsPlan, IsUntouched, IsUsed, Stays, use_now};
     ghost use Rattle.evaluator.specs.Findings.{FindsAll, passing_first};
-    ghost use Rattle.evaluator.specs.Logs.{log_view, mark_view};
-    ghost use Rattle.evaluator.specs.Notes.{lengths, parts_notes};
+    ghost use Rattle.evaluation_log.specs.Logs.{log_view, mark_view};
+    ghost use Rattle.evaluation_log.specs.Notes.{lengths, parts_notes};
     ghost use Rattle.evaluator.specs.Rounds.{IsAtKeyword, IsKnown, IsUnder, part_outcome, part_outcomes, use_there};
 
     /// A keyword with this value: what it applies, and whether it passes.

@@ -14,15 +14,15 @@ ghost use Rattle.definition_laws.specs.Reaching.{HaveDistinctResources};
 ghost use Rattle.faults.specs.View.{fault_view};
 ghost use Rattle.json_doc.specs.Docs.{value};
 ghost use Rattle.linker.specs.LinkedDocuments.{linked_documents, linked_uri};
-ghost use Rattle.evaluator.specs.Logs.{log_view};
-ghost use Rattle.evaluator.specs.Notes.{outcome_notes};
+ghost use Rattle.evaluation_log.specs.Logs.{log_view};
+ghost use Rattle.evaluation_log.specs.Notes.{outcome_notes};
 ghost use Rattle.evaluator.specs.Reports.{Gives, GivesOutput, Judges, is_valid, report_or_fault, report_text};
 
 use crate::applying::Evaluation;
 use crate::halt::Halt;
-use crate::log::Log;
 use crate::memory::EvaluationMemory;
 use evaluation_context::{Context, Start};
+use evaluation_log::Log;
 use faults::Fault;
 use json_doc::Doc;
 use linker::Linked;

@@ -1,8 +1,8 @@
 //! The use of a schema object.
 
-use crate::log::Before;
 use crate::present::Present;
 use applicators::Subject;
+use evaluation_log::Before;
 
 /// The use of a schema object: the object, what it is applied to, and how much was evaluated before its keywords.
 #[derive(Clone, Copy)]

@@ -14,14 +14,14 @@ ghost use Rattle.json_doc.specs.NamedMembers.{name_text};
 ghost use Rattle.keywords.specs.Rows.{row_of};
 ghost use Rattle.applicators.specs.Subjects.{subject_value};
 ghost use Rattle.linker.specs.declared.linked.Linked.{Linked};
-ghost use Rattle.evaluator.specs.Logs.{log_view, mark_view};
-ghost use Rattle.evaluator.specs.Notes.{Notes, annotation_texts, evaluates, lengths, notes_of_both, parts_notes, uses_notes, visible_notes};
+ghost use Rattle.evaluation_log.specs.Logs.{log_view, mark_view};
+ghost use Rattle.evaluation_log.specs.Notes.{Notes, annotation_texts, evaluates, lengths, notes_of_both, parts_notes, uses_notes, visible_notes};
 ghost use Rattle.evaluator.specs.Rounds.{IsUnder, use_there};
 
-use crate::log::{Before, Log, LogMark};
 use applicators::{Evaluated, Subject, annotate, distinct_names};
 use basic_output::{Mark, Says, Units};
 use evaluation_context::Context;
+use evaluation_log::{Before, Log, LogMark};
 use json_doc::Name;
 use keywords::Keyword;
 use std::alloc::AllocError;

@@ -7,16 +7,16 @@ ghost use Rattle.definitions.specs.Outcomes.{Use, outcome_of_uses};
 ghost use Rattle.json_doc.specs.Docs.{value};
 ghost use Rattle.evaluation_context.specs.Frames.{context_view, frame_standing};
 ghost use Rattle.evaluation_context.specs.Standings.{application_at};
-ghost use Rattle.evaluator.specs.Logs.{log_view, mark_view};
-ghost use Rattle.evaluator.specs.Notes.{Notes, lengths, notes_of_both, object_notes, outcome_notes};
+ghost use Rattle.evaluation_log.specs.Logs.{log_view, mark_view};
+ghost use Rattle.evaluation_log.specs.Notes.{Notes, lengths, notes_of_both, object_notes, outcome_notes};
 ghost use Rattle.applicators.specs.Subjects.{subject_value};
 ghost use Rattle.keyword_plans.specs.ScopeViews.{scope_documents};
 
 use crate::annotating::note_others;
-use crate::log::{Log, LogMark};
 use crate::present::Present;
 use applicators::Subject;
 use evaluation_context::Context;
+use evaluation_log::{Log, LogMark};
 use std::alloc::AllocError;
 
 /// Of a schema object that was counted, and whose keywords were used since the mark: where all pass, the names annotate that are

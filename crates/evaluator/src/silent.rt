@@ -29,7 +29,8 @@ impl<'a> Evaluation<'a> {
     ghost use Rattle.evaluation_context.specs.Frames.{context_view};
     ghost use Rattle.evaluator.specs.Applying.{IsUntouched};
     ghost use Rattle.evaluator.specs.Rounds.{IsUnder, part_outcome};
-    ghost use Rattle.evaluator.specs.Silences.{IsSilent, is_met_alone};
+    ghost use Rattle.evaluator.specs.Silences.{is_met_alone};
+    ghost use Rattle.evaluation_log.specs.Notes.{IsSilent};
 
     /// Whether the schema that is planned surely passes without a word, and there is room to apply it: it is `true`, or a schema
     /// object that does so at a part of the instance below this one. The only error is want of memory.

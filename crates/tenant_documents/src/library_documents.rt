@@ -16,7 +16,11 @@ use std::rc::Rc;
 
 impl Registry {
     // Whether the library has a document with this canonical URI. The only error is want of memory.
-    pub(crate) fn is_in_library(&self, alloc: Global, canonical_uri: &str) -> Result<bool, AllocError>
+    pub(crate) fn is_in_library(
+        &self,
+        alloc: Global,
+        canonical_uri: &str,
+    ) -> Result<bool, AllocError>
         ensures { IfOk result (λ there. there
             ≡ is_in_library (registry_view self.now) canonical_uri.now) }
     {

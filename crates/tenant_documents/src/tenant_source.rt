@@ -29,7 +29,11 @@ impl<'a> Source for TenantSource<'a> {
 
     ghost documents = { source_documents };
 
-    fn holding(&mut self, alloc: Global, resource: &str) -> Result<Option<Rc<Compiled>>, AllocError> {
+    fn holding(
+        &mut self,
+        alloc: Global,
+        resource: &str,
+    ) -> Result<Option<Rc<Compiled>>, AllocError> {
         match self.documents.holder(resource) {
             Some(stored) => match self.cache.compiled_of_key(alloc, stored.key()) {
                 Ok(compiled) => Ok(Some(compiled)),

@@ -64,7 +64,10 @@ pub fn absolute_reference(
 }
 
 // What these parts name, where a reference resolves to them, or none where their fragment can't be read.
-fn named_by(alloc: Global, resolved: &ResolvedParts<'_>) -> Result<Option<AbsoluteReference>, AllocError>
+fn named_by(
+    alloc: Global,
+    resolved: &ResolvedParts<'_>,
+) -> Result<Option<AbsoluteReference>, AllocError>
     ensures { (resource reference : Text)
         → resolved.now ≡ resolve (split resource) (split reference)
         → IfOk result (λ r. IsReadAs (target_uri resource reference) r) }
@@ -80,7 +83,10 @@ fn named_by(alloc: Global, resolved: &ResolvedParts<'_>) -> Result<Option<Absolu
 }
 
 // What the fragment names, or none where it can't be read.
-fn readable_fragment(alloc: Global, fragment: Option<&str>) -> Result<Option<FragmentKind>, AllocError>
+fn readable_fragment(
+    alloc: Global,
+    fragment: Option<&str>,
+) -> Result<Option<FragmentKind>, AllocError>
     ensures { IfOk result
         (λ kind. IsShownBy (fragment_kind (option_map (λ t. t.now) fragment.entry)) kind) }
 {

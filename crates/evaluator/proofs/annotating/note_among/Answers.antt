@@ -4,11 +4,11 @@ use Rattle.json_doc.specs.Docs.{value}
 use Rattle.json_doc.specs.NamedMembers.{name_text, named_left}
 use Rattle.evaluation_context.specs.Frames.{frame_standing}
 use Rattle.evaluator.specs.Annotations.{annotations_among}
-use Rattle.evaluator.specs.Logs.{log_view}
-use Rattle.evaluator.specs.Notes.{notes_of_both}
+use Rattle.evaluation_log.specs.Logs.{log_view}
+use Rattle.evaluation_log.specs.Notes.{notes_of_both}
 use Rattle.applicators.specs.Subjects.{subject_value}
 use Rattle.evaluator.proofs.AnnotatingLaws.{annotates_there, annotation_here}
-use Rattle.evaluator.proofs.LogLaws.{added_nothing, annotated, annotated_then}
+use Rattle.evaluation_log.proofs.LogLaws.{added_nothing, annotated, annotated_then}
 use Rattle.evaluator.proofs.annotating.note_among.Goals as goal
 
 pub loop-name-preserved-in-Continue-1 : goal.loop-name-preserved-in-Continue-1

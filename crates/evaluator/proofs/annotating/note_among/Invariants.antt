@@ -8,8 +8,8 @@ use Rattle.applicators.specs.Subjects.{subject_value}
 use Rattle.evaluation_context.specs.Frames.{context_view, frame_standing}
 use Rattle.evaluation_context.specs.Standings.{standing_of}
 use Rattle.evaluator.specs.Annotations.{annotations_among}
-use Rattle.evaluator.specs.Logs.{log_view}
-use Rattle.evaluator.specs.Notes.{annotation_texts, no_notes, notes_of_both}
+use Rattle.evaluation_log.specs.Logs.{log_view}
+use Rattle.evaluation_log.specs.Notes.{annotation_texts, no_notes, notes_of_both}
 use Rattle.evaluator.proofs.annotating.note_among.Given as goal
 
 -- what was noted, and what the members that are left add

@@ -4,8 +4,8 @@ use Rattle.json_doc.specs.Docs.{value}
 use Rattle.basic_output.specs.Pieces.{unit_text}
 use Rattle.evaluation_context.specs.Frames.{frame_standing}
 use Rattle.evaluation_context.specs.Standings.{Standing, at_keyword, unit_there}
-use Rattle.evaluator.specs.Logs.{log_view}
-use Rattle.evaluator.specs.Notes.{no_notes, notes_of_both}
+use Rattle.evaluation_log.specs.Logs.{log_view}
+use Rattle.evaluation_log.specs.Notes.{no_notes, notes_of_both}
 use Rattle.evaluator.proofs.annotating.note_member.Goals as goal
 
 pub returns-clause-noted : goal.returns-clause-noted

@@ -3,10 +3,10 @@ use Rattle.json_doc.specs.Docs.{members_value}
 use Rattle.json_doc.specs.Members.{members_left}
 use Rattle.evaluation_context.specs.Frames.{frame_standing}
 use Rattle.evaluator.specs.Annotations.{annotations_among}
-use Rattle.evaluator.specs.Logs.{log_view}
-use Rattle.evaluator.specs.Notes.{notes_of_both}
+use Rattle.evaluation_log.specs.Logs.{log_view}
+use Rattle.evaluation_log.specs.Notes.{notes_of_both}
 use Rattle.evaluator.proofs.DollarLaws.{annotations_around}
-use Rattle.evaluator.proofs.LogLaws.{annotated, annotated_then}
+use Rattle.evaluation_log.proofs.LogLaws.{annotated, annotated_then}
 use Rattle.evaluator.proofs.annotating.note_members.Goals as goal
 
 pub returns-then-not-are_many-clause-noted : goal.returns-then-not-are_many-clause-noted

@@ -1,9 +1,9 @@
 use Rattle.std.proofs.Common.{◌≡◌, ◌∙◌, refl, sym, ap, subst, OnOk}
 use Rattle.json_doc.specs.Docs.{value, members_value}
-use Rattle.evaluator.specs.Logs.{log_view}
-use Rattle.evaluator.specs.Notes.{notes_of_both}
+use Rattle.evaluation_log.specs.Logs.{log_view}
+use Rattle.evaluation_log.specs.Notes.{notes_of_both}
 use Rattle.evaluator.proofs.AnnotatingLaws.{no_others, others_are}
-use Rattle.evaluator.proofs.LogLaws.{added_nothing, annotated}
+use Rattle.evaluation_log.proofs.LogLaws.{added_nothing, annotated}
 use Rattle.evaluator.proofs.annotating.note_others.Goals as goal
 
 pub returns-then-not-may_annotate : goal.returns-then-not-may_annotate

@@ -6,7 +6,7 @@ use Rattle.linker.specs.LinkedDocuments.{linked_schemas, linked_uri}
 use Rattle.schema_scan.specs.Locateds.{located_view}
 use Rattle.evaluation_context.specs.Frames.{context_view, frame_standing}
 use Rattle.evaluation_context.specs.Standings.{application_at}
-use Rattle.evaluator.specs.Logs.{log_view}
+use Rattle.evaluation_log.specs.Logs.{log_view}
 use Rattle.evaluator.specs.Reports.{Judges, linked_answer}
 use Rattle.evaluator.specs.Rounds.{root_outcome}
 use Rattle.evaluator.proofs.ReportLaws.{costly_first, first_outcome, first_is_at, noted_first, output_err, output_ok, output_same, unreached_changes_nothing}

@@ -1,6 +1,6 @@
 use Rattle.std.proofs.Common.{◌≡◌, ◌∙◌, OnOk, IfOk, subst, sym}
-use Rattle.evaluator.specs.Logs.{log_view}
-use Rattle.evaluator.specs.Notes.{outcome_notes}
+use Rattle.evaluation_log.specs.Logs.{log_view}
+use Rattle.evaluation_log.specs.Notes.{outcome_notes}
 use Rattle.evaluator.proofs.ReportLaws.{answer_deep, answer_loop, answer_made, counted_so, deep_so, looped_so, within_most}
 use Rattle.evaluator.proofs.report.judged.Goals as goal
 

@@ -9,7 +9,7 @@ use Rattle.keyword_plans.specs.ObjectApplications.{linked_rules}
 use Rattle.evaluation_context.specs.Frames.{context_view}
 use Rattle.keywords.specs.Rows.{row_of}
 use Rattle.evaluator.specs.Rounds.{use_there, linked_outcome}
-use Rattle.evaluator.proofs.LogLaws.{inserted_list}
+use Rattle.evaluation_log.proofs.LogLaws.{inserted_list}
 use Rattle.evaluator.proofs.SettlingLaws.{own_none, own_some, unit_under}
 use Rattle.evaluator.proofs.settling.insert_own.Goals as goal
 

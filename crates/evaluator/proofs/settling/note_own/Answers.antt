@@ -3,12 +3,12 @@ use Rattle.std.proofs.lemmas.Result.{on_ok_weaker}
 use Rattle.definitions.specs.Evaluated.{once}
 use Rattle.json_doc.specs.NamedMembers.{name_text}
 use Rattle.basic_output.specs.Units.{unit_texts}
-use Rattle.evaluator.specs.Notes.{Lengths, notes_of_both}
-use Rattle.evaluator.specs.Logs.{log_view}
+use Rattle.evaluation_log.specs.Notes.{Lengths, notes_of_both}
+use Rattle.evaluation_log.specs.Logs.{log_view}
 use Rattle.evaluator.specs.Rounds.{use_there}
-use Rattle.evaluator.specs.declared.log.Before.{Before}
+use Rattle.evaluation_log.specs.declared.log.Before.{Before}
 use Rattle.output_texts.specs.declared.noted_units.NotedUnits.{NotedUnits}
-use Rattle.evaluator.proofs.LogLaws.{same_notes, rest_list, errors_of, annotations_of, names_of, indexes_of, tally_of}
+use Rattle.evaluation_log.proofs.LogLaws.{same_notes, rest_list, errors_of, annotations_of, names_of, indexes_of, tally_of}
 use Rattle.evaluator.proofs.SettlingLaws.{names_of_patterns, names_of_others}
 use Rattle.evaluator.proofs.settling.note_own.Goals as goal
 

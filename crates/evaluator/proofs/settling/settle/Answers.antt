@@ -5,8 +5,8 @@ use Rattle.basic_output.specs.Sayings.{says_value}
 use Rattle.basic_output.specs.declared.says.Says.TheVariants.{NotMet}
 use Rattle.keywords.specs.Rows.{row_of}
 use Rattle.evaluation_context.specs.Frames.{context_view}
-use Rattle.evaluator.specs.Logs.{log_view}
-use Rattle.evaluator.specs.Notes.{Notes, notes_of_both, parts_notes, visible_notes}
+use Rattle.evaluation_log.specs.Logs.{log_view}
+use Rattle.evaluation_log.specs.Notes.{Notes, notes_of_both, parts_notes, visible_notes}
 use Rattle.evaluator.specs.Rounds.{use_there}
 use Rattle.evaluator.proofs.SettlingLaws.{failing_settled, indexes_settled, names_settled, own_none, passing_settled, unit_under}
 use Rattle.evaluator.proofs.settling.settle.Goals as goal

@@ -6,9 +6,9 @@ use Rattle.definitions.specs.Outcomes.{Use, other_annotations}
 use Rattle.json_doc.specs.Docs.{value}
 use Rattle.applicators.specs.Subjects.{subject_value}
 use Rattle.evaluation_context.specs.Frames.{context_view, frame_standing}
-use Rattle.evaluator.specs.Notes.{Notes, notes_of_both, object_notes}
+use Rattle.evaluation_log.specs.Notes.{Notes, notes_of_both, object_notes}
 use Rattle.evaluator.proofs.CombinedLaws.{failing_object, passing_object, stands_there}
-use Rattle.evaluator.proofs.LogLaws.{added_twice, annotated}
+use Rattle.evaluation_log.proofs.LogLaws.{added_twice, annotated}
 use Rattle.evaluator.proofs.settling_object.settle_object.Goals as goal
 
 pub returns-then-valid-clause-noted : goal.returns-then-valid-clause-noted

@@ -7,8 +7,8 @@ use Rattle.evaluation_context.specs.Frames.{context_view}
 use Rattle.evaluator.specs.Applying.{HasUses}
 use Rattle.evaluator.specs.Findings.{FindsAll}
 use Rattle.evaluator.specs.Groups.{first_groups}
-use Rattle.evaluator.specs.Logs.{log_view}
-use Rattle.evaluator.specs.Notes.{notes_of_both, parts_notes}
+use Rattle.evaluation_log.specs.Logs.{log_view}
+use Rattle.evaluation_log.specs.Notes.{notes_of_both, parts_notes}
 use Rattle.evaluator.specs.Rounds.{IsAt, groups_uses, IsKnown, IsUnder, part_outcomes}
 use Rattle.keywords.specs.Rows.{row_of}
 use Rattle.applicators.specs.declared.planned.Planned.{Planned}

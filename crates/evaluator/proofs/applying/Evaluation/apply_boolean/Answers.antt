@@ -1,7 +1,7 @@
 use Rattle.std.proofs.Common.{◌∙◌, ap}
 use Rattle.definitions.specs.Applied.{Outcome}
-use Rattle.evaluator.specs.Logs.{log_view}
-use Rattle.evaluator.specs.Notes.{notes_of_both, outcome_notes}
+use Rattle.evaluation_log.specs.Logs.{log_view}
+use Rattle.evaluation_log.specs.Notes.{notes_of_both, outcome_notes}
 use Rattle.evaluator.proofs.OutcomeLaws.{deep_boolean, shallow_boolean}
 use Rattle.evaluator.proofs.applying.Evaluation.apply_boolean.Goals as goal
 

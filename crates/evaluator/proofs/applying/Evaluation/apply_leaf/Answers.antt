@@ -6,8 +6,8 @@ use Rattle.applicators.specs.Subjects.{subject_value}
 use Rattle.evaluation_context.specs.Frames.{Frame, frame_standing}
 use Rattle.evaluation_context.specs.Standings.{application_at}
 use Rattle.evaluator.specs.Groups.{first_groups}
-use Rattle.evaluator.specs.Logs.{log_view}
-use Rattle.evaluator.specs.Notes.{notes_of_both, outcome_notes}
+use Rattle.evaluation_log.specs.Logs.{log_view}
+use Rattle.evaluation_log.specs.Notes.{notes_of_both, outcome_notes}
 use Rattle.evaluator.specs.Rounds.{groups_uses}
 use Rattle.evaluator.proofs.CombinedLaws.{counted_lengths, counted_noted}
 use Rattle.evaluator.proofs.LeafLaws.{leaf_uses}

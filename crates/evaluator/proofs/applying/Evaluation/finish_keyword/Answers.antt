@@ -2,7 +2,7 @@ use Rattle.std.proofs.Common.{rules, ◌∙◌, ap}
 use Rattle.json_doc.specs.Docs.{value}
 use Rattle.keywords.specs.Rows.{row_of}
 use Rattle.evaluation_context.specs.Frames.{context_view, frame_standing}
-use Rattle.evaluator.specs.Logs.{log_view}
+use Rattle.evaluation_log.specs.Logs.{log_view}
 use Rattle.evaluator.specs.Rounds.{use_there}
 use Rattle.evaluator.proofs.SettlingLaws.{use_valid}
 use Rattle.evaluator.proofs.applying.Evaluation.finish_keyword.Goals as goal

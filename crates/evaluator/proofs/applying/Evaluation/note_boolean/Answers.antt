@@ -6,9 +6,9 @@ use Rattle.basic_output.specs.Pieces.{unit_text}
 use Rattle.basic_output.specs.Sayings.{says_value}
 use Rattle.evaluation_context.specs.Frames.{frame_standing}
 use Rattle.evaluation_context.specs.Standings.{unit_there}
-use Rattle.evaluator.specs.Logs.{log_view}
-use Rattle.evaluator.specs.Notes.{no_notes, notes_of_both}
-use Rattle.evaluator.proofs.LogLaws.{error_after}
+use Rattle.evaluation_log.specs.Logs.{log_view}
+use Rattle.evaluation_log.specs.Notes.{no_notes, notes_of_both}
+use Rattle.evaluation_log.proofs.LogLaws.{error_after}
 use Rattle.evaluator.proofs.applying.Evaluation.note_boolean.Goals as goal
 
 pub returns-then-allowed-clause-noted : goal.returns-then-allowed-clause-noted

@@ -7,7 +7,7 @@ use Rattle.keywords.specs.Rows.{row_of}
 use Rattle.applicators.specs.Plans.{planned_view}
 use Rattle.keyword_plans.specs.ObjectApplications.{linked_rules}
 use Rattle.evaluation_context.specs.Frames.{context_view, frame_standing}
-use Rattle.evaluator.specs.Logs.{log_view}
+use Rattle.evaluation_log.specs.Logs.{log_view}
 use Rattle.evaluator.specs.Rounds.{linked_outcome}
 use Rattle.evaluator.proofs.AloneLaws.{same_looked}
 use Rattle.evaluator.proofs.SettlingLaws.{plan_of}

@@ -14,12 +14,12 @@ use Rattle.evaluation_context.specs.declared.context.Context.{Context}
 use Rattle.std.proofs.lemmas.Result.{IfErr-weaker}
 use Rattle.evaluator.specs.Applying.{HasUses}
 use Rattle.evaluator.specs.declared.halt.Halt.TheVariants as halt
-use Rattle.evaluator.specs.Logs.{log_view}
-use Rattle.evaluator.specs.Notes.{Notes, notes_of_both, uses_notes}
+use Rattle.evaluation_log.specs.Logs.{log_view}
+use Rattle.evaluation_log.specs.Notes.{Notes, notes_of_both, uses_notes}
 use Rattle.evaluator.specs.Rounds.{group_uses}
-use Rattle.evaluator.specs.declared.log.Log.{Log}
+use Rattle.evaluation_log.specs.declared.log.Log.{Log}
 use Rattle.evaluator.proofs.AssertedLaws.{absent_use, alone_valid, asserted_use, failing_notes, passing_notes}
-use Rattle.evaluator.proofs.LogLaws.{added_nothing}
+use Rattle.evaluation_log.proofs.LogLaws.{added_nothing}
 use Rattle.evaluator.proofs.TurnLaws.{none_used}
 use Rattle.evaluator.proofs.applying.Evaluation.use_assertion.Goals as goal
 

@@ -2,7 +2,7 @@ use Rattle.std.proofs.Common.{◌∙◌, refl, ap}
 use Rattle.json_doc.specs.Docs.{value}
 use Rattle.schema_scan.specs.Locateds.{located_view}
 use Rattle.evaluation_context.specs.Frames.{context_view}
-use Rattle.evaluator.specs.Logs.{log_view}
+use Rattle.evaluation_log.specs.Logs.{log_view}
 use Rattle.evaluator.proofs.ReportLaws.{stands_at_root}
 use Rattle.evaluator.proofs.evaluator.Evaluator.at_root.Goals as goal
 

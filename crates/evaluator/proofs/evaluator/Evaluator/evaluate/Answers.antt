@@ -6,7 +6,7 @@ use Rattle.json_doc.specs.Docs.{value}
 use Rattle.linker.specs.LinkedDocuments.{linked_schemas, linked_uri}
 use Rattle.evaluation_context.specs.Frames.{context_view}
 use Rattle.evaluator.specs.Evaluators.{evaluator_linked}
-use Rattle.evaluator.specs.Logs.{log_view}
+use Rattle.evaluation_log.specs.Logs.{log_view}
 use Rattle.evaluator.specs.Reports.{linked_answer}
 use Rattle.evaluator.specs.Rounds.{root_outcome}
 use Rattle.evaluator.proofs.ReportLaws.{costly_first, first_outcome, gives_err, gives_ok, gives_same, is_at_root, noted_first, unreached_changes_nothing}

@@ -8,10 +8,10 @@ use Rattle.evaluation_context.specs.Frames.{Frame, context_view, frame_standing}
 use Rattle.evaluation_context.specs.Standings.{application_at}
 use Rattle.evaluator.specs.Applying.{HasOutcome}
 use Rattle.evaluator.specs.declared.halt.Halt.TheVariants as halt
-use Rattle.evaluator.specs.Logs.{log_view}
-use Rattle.evaluator.specs.Notes.{IsOver, notes_of_both, outcome_notes}
+use Rattle.evaluation_log.specs.Logs.{log_view}
+use Rattle.evaluation_log.specs.Notes.{IsOver, notes_of_both, outcome_notes}
 use Rattle.evaluator.specs.Rounds.{IsAt, linked_outcome, object_uses}
-use Rattle.evaluator.proofs.CountLaws.{full_over}
+use Rattle.evaluation_log.proofs.CountLaws.{full_over}
 use Rattle.evaluator.proofs.CombinedLaws.{counted_lengths, counted_noted, counted_over, entered_at}
 use Rattle.evaluator.proofs.ObjectLaws.{object_by_groups}
 use Rattle.definitions.specs.Outcomes.{is_running}

@@ -9,8 +9,8 @@ use Rattle.definitions.specs.Outcomes.{Use}
 use Rattle.evaluator.specs.Applying.{HasUses}
 use Rattle.evaluator.specs.Findings.{passing_first}
 use Rattle.evaluator.specs.declared.siblings.Siblings.{Siblings}
-use Rattle.evaluator.specs.Logs.{log_view}
-use Rattle.evaluator.specs.Notes.{notes_of_both, uses_notes}
+use Rattle.evaluation_log.specs.Logs.{log_view}
+use Rattle.evaluation_log.specs.Notes.{notes_of_both, uses_notes}
 use Rattle.evaluator.specs.Rounds.{IsAt, two_uses, group_uses, groups_uses, indexes_since, names_since, uses_since, uses_with, unevaluated_uses, Knows}
 use Rattle.linker.specs.declared.linked.Linked.{Linked}
 use Rattle.keywords.specs.declared.keyword.Keyword.TheVariants.{UnevaluatedItems, UnevaluatedProperties, Ref, If, Then, Else, Contains, MinContains, MaxContains}
@@ -20,7 +20,7 @@ use Rattle.std.specs.List.{list_all}
 use Rattle.std.proofs.lemmas.List.{take_all}
 use Rattle.evaluator.specs.Groups.{first_groups, stands_alone}
 use Rattle.keywords.specs.declared.group.Group.TheVariants.{One}
-use Rattle.evaluator.proofs.LogLaws.{added_nothing}
+use Rattle.evaluation_log.proofs.LogLaws.{added_nothing}
 use Rattle.evaluator.proofs.PresentLaws.{groups_alone, groups_passed}
 use Rattle.evaluator.proofs.TurnLaws.{first_halts, group_halts, group_used, second_halts, uses_both}
 use Rattle.evaluator.proofs.UseLaws.{all_at, all_alone, few_groups, still_at}

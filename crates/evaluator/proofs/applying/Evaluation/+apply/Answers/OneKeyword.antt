@@ -9,14 +9,14 @@ use Rattle.evaluation_context.specs.Returns.{CameFrom}
 use Rattle.evaluation_context.specs.Standings.{at_keyword}
 use Rattle.evaluator.specs.Applying.{AreKnown, HasParts, HasUses, use_now}
 use Rattle.evaluator.specs.Findings.{FindsAll}
-use Rattle.evaluator.specs.Logs.{log_view}
-use Rattle.evaluator.specs.Notes.{IsOver, notes_of_both, parts_notes, part_notes}
-use Rattle.evaluator.specs.declared.log.Log.{Log}
+use Rattle.evaluation_log.specs.Logs.{log_view}
+use Rattle.evaluation_log.specs.Notes.{IsOver, notes_of_both, parts_notes, part_notes}
+use Rattle.evaluation_log.specs.declared.log.Log.{Log}
 use Rattle.evaluator.specs.Rounds.{IsAt, names_since, indexes_since, IsAtKeyword, IsKnown, part_outcomes, use_there, IsUnder, part_outcome}
 use Rattle.linker.specs.declared.linked.Linked.{Linked}
 use Rattle.std.proofs.lemmas.List.{take_all}
 use Rattle.std.proofs.lemmas.Result.{on_ok_weaker}
-use Rattle.evaluator.proofs.LogLaws.{added_nothing}
+use Rattle.evaluation_log.proofs.LogLaws.{added_nothing}
 use Rattle.keywords.specs.Rows.{row_of}
 use Rattle.evaluator.proofs.SettlingLaws.{at_keyword_of, use_over, use_passing}
 use Rattle.evaluator.proofs.PlannedLaws.{none_found, passing_within, child_more, child_noted, child_over, planned_at}

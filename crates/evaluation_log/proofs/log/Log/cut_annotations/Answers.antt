@@ -1,0 +1,14 @@
+use Rattle.std.proofs.Common.{◌∙◌, ap, sym, append-nil}
+use Rattle.basic_output.specs.Units.{unit_texts}
+use Rattle.evaluation_log.specs.Notes.{Lengths, notes_of_both}
+use Rattle.evaluation_log.specs.Logs.{log_view}
+use Rattle.output_texts.specs.declared.noted_units.NotedUnits.{NotedUnits}
+use Rattle.evaluation_log.proofs.LogLaws.{same_notes, cut_list, errors_of, annotations_of, names_of, indexes_of, tally_of}
+use Rattle.evaluation_log.proofs.log.Log.cut_annotations.Goals as goal
+
+pub returns : goal.returns
+unfolding log_view notes_of_both
+returns c older more m e =
+    same_notes (ap (λ (u : NotedUnits). unit_texts u.errors) c.deref_mut.ensures.value ∙ errors_of _ older more e)
+    (c.cut_back.ensures ∙ cut_list c.args.mark.now.annotations older.annotations more.annotations _ (ap (λ (l : Lengths). l.annotations) m) (ap (λ (u : NotedUnits). unit_texts u.annotations) c.deref_mut.ensures.value ∙ annotations_of _ older more e) ∙ sym (append-nil _))
+    (names_of _ older more e) (indexes_of _ older more e) (tally_of _ older more e)

@@ -1,9 +1,0 @@
-use Rattle.std.proofs.Common.{sym, append-nil}
-use Rattle.evaluator.specs.Notes.{notes_of_both}
-use Rattle.evaluator.specs.Logs.{log_view}
-use Rattle.evaluator.proofs.LogLaws.{same_notes, tallied_nothing}
-use Rattle.evaluator.proofs.log.Log.push_index.Goals as goal
-
-pub returns : goal.returns
-unfolding log_view notes_of_both
-returns c = same_notes (sym (append-nil _)) (sym (append-nil _)) (sym (append-nil _)) c.in_ok-push.ensures.items (sym (tallied_nothing _))

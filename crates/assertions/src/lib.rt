@@ -11,4 +11,3 @@ mod types;
 
 pub use assertion::{Assertion, holds};
 pub use limits::{is_at_least, is_at_most};
-pub use numbers::is_multiple;

@@ -9,7 +9,7 @@ use json_doc::{Doc, Whole};
 
 /// Whether both are numbers and the divisor, above 0, divides the instance (Validation, section 6.2.1).
 #[inline(always)]
-pub fn is_multiple(instance: &Doc, divisor: &Doc) -> bool
+pub(crate) fn is_multiple(instance: &Doc, divisor: &Doc) -> bool
     ensures { result ≡ is_multiple (value instance.now) (value divisor.now) }
 {
     match instance {

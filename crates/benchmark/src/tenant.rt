@@ -18,5 +18,5 @@ pub fn one_tenant(alloc: Global) -> Result<Hub, Fault> {
         documents: u32::MAX,
         bytes: u64::MAX,
     })?;
-    Hub::new(alloc, tenants, CAPACITY)
+    Hub::new(alloc, tenants, CAPACITY, None)
 }

@@ -1,7 +1,7 @@
 //! Each keyword that looks at its own value and the instance, on both sides of its bound.
 
 use crate::texts::expect_holds;
-use assertions::{Assertion, holds, is_at_least, is_at_most, is_multiple};
+use assertions::{Assertion, holds, is_at_least, is_at_most};
 use json_doc::{Fault, read};
 use std::alloc::Global;
 use std::process::Abort;
@@ -437,10 +437,10 @@ fn keywords_hold_up_to_their_bounds(rt: HostRuntime) {
 fn are_told_apart(alloc: Global) -> Result<bool, Fault> {
     let six = read(alloc, b"-6")?;
     let three = read(alloc, b"3")?;
-    let are_multiples = is_multiple(&six, &three) && !is_multiple(&three, &six);
+    let divides = holds(alloc, Assertion::MultipleOf, &three, &six)?;
     let are_at_most = is_at_most(3, &three) && !is_at_most(4, &three) && is_at_most(4, &six);
     let are_at_least = is_at_least(3, &three) && !is_at_least(2, &three) && is_at_least(0, &six);
-    Ok(are_multiples && are_at_most && are_at_least)
+    Ok(divides && are_at_most && are_at_least)
 }
 
 #[test]

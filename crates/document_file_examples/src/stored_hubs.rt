@@ -42,7 +42,7 @@ fn empty_hub(alloc: Global) -> Result<Hub, Fault>
         bytes: 1000,
     })?;
     new_servers_have_no_documents();
-    match Hub::new(alloc, tenants, 4) {
+    match Hub::new(alloc, tenants, 4, None) {
         Ok(hub) => Ok(hub),
         Err(fault) => Err(fault),
     }

@@ -7,7 +7,7 @@ use Rattle.definitions.specs.Values.{Text, Value, get, elements, members, string
 use Rattle.definitions.specs.Schemas.{Schema, reference_at}
 use Rattle.definitions.specs.Targets.{target, dynamic_target}
 use Rattle.definitions.specs.Keywords.{Meaning, asserts, matches_pattern, refers, refers_dynamically, all_of, any_of, one_of, negation, condition, consequence, dependent_schemas, prefix_items, items, contains, min_contains, max_contains, properties, pattern_properties, additional_properties, property_names, unevaluated_items, unevaluated_properties, declares}
-use Rattle.definitions.specs.Applied.{Application, Outcome, OutputUnit, Part, Rules, whole, named, indexed, name_of, keyword_applications, at_part, at_present, siblings, consequence_of, condition_outcome, is_taken, to_target, has}
+use Rattle.definitions.specs.Applied.{Application, Outcome, OutputUnit, Part, Rules, whole, named, indexed, name_of, keyword_applications, at_part, at_present, beside, consequence_of, condition_outcome, is_taken, to_target, has}
 use Rattle.definitions.specs.Evaluated.{outcomes_that_pass, outcomes_that_fail, part_names, part_indexes, is_in_place, evaluated_names, evaluated_indexes}
 use Rattle.evaluation_log.specs.Notes.{names_from, indexes_from, needs_to_pass, evaluates}
 
@@ -186,7 +186,7 @@ parts_stand rules run names indexes a k condition v = refl
 parts_stand rules run names indexes a k (consequence wanted) v = followed a k wanted v (condition_outcome run a)
 parts_stand rules run names indexes a k dependent_schemas v = all_map _ _ (filter (λ m. is_some (get m.0 a.instance)) (members v)) (λ e. refl)
 parts_stand rules run names indexes a k prefix_items v = all_map _ _ (zip (enumerate_from 0 (elements v)) (elements a.instance)) (λ e. refl)
-parts_stand rules run names indexes a k items v = all_map _ _ (let start = length (elements (siblings a (codes "prefixItems"))) in enumerate_from start (drop start (elements a.instance))) (λ e. refl)
+parts_stand rules run names indexes a k items v = all_map _ _ (let start = length (elements (beside a (codes "prefixItems"))) in enumerate_from start (drop start (elements a.instance))) (λ e. refl)
 parts_stand rules run names indexes a k contains v = all_map _ _ (enumerate_from 0 (elements a.instance)) (λ e. refl)
 parts_stand rules run names indexes a k min_contains v = refl
 parts_stand rules run names indexes a k max_contains v = refl

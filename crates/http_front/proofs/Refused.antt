@@ -27,8 +27,3 @@ refused_run (Ok ks) reads writes f why = elim (is_no_room f) [
       (inl (inr (inr (e, inl (holding [], [], inl refl, reads_nothing call_answers (wire ks reads writes)))))) (bounded_by reads reads 0 (nothing_read reads) (omega arith))
   | inr e ↦ absurd (cc (why e))
 ]
-
-pub run_of : (server : Result (List KeyedRegistry) meaning.Fault) (ks : List KeyedRegistry) (reads writes more others : List Transfer) (r : Result (Unit {0}) Fault)
-    → server ≡ Ok ks → IsHubServed ks reads writes (as_failure r) more others → IsRun server reads writes r more others
-run_of (Err g) ks reads writes more others r e x = absurd (cc e)
-run_of (Ok ls) ks reads writes more others r e x = let same : ls ≡ ks = cc e in rw same x

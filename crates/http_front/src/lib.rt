@@ -13,8 +13,8 @@ pub use connections::{Exchange, Handler, Outage, Sessions, Unsettled};
 pub use hub_handler::{HasHub, HubHandler};
 pub use isolation::{connections_are_isolated, served_connections_are_isolated};
 pub use noted_hub::{Journal, NotedHub};
-pub use running::{run_connection, run_connection_with, serve_connection};
-pub use servers::{hub_of, hub_over};
+pub use running::{serve_connection, serve_hub};
+pub use servers::hub_of;
 pub use serving::{
     Broken, ByteReader, ByteWriter, Failure, MemoryReader, MemoryWriter, Pace, Pause, Recorded,
     serve,

@@ -6,7 +6,7 @@ ghost use Rattle.definitions.specs.Values.{get, as_string, same, string, text_at
 ghost use Rattle.json_doc.specs.Docs.{value, members_value};
 ghost use Rattle.json_doc.specs.SmallTexts.{short_text};
 ghost use Rattle.keywords.specs.Rows.{row_of};
-ghost use Rattle.json_doc.specs.Kinds.{as_boolean, as_integer, as_elements, as_members};
+ghost use Rattle.json_doc.specs.Kinds.{as_boolean, as_elements, as_members};
 
 use crate::members::Members;
 use crate::short_text::ShortText;
@@ -68,16 +68,6 @@ impl Doc {
     {
         match self {
             Doc::Bool(boolean) => Some(*boolean),
-            _ => None,
-        }
-    }
-
-    /// The number, if the value is one.
-    pub fn as_int(&self) -> Option<Whole>
-        ensures { result ≡ as_integer (value self.now) }
-    {
-        match self {
-            Doc::Int(number) => Some(*number),
             _ => None,
         }
     }

@@ -1,6 +1,6 @@
 //! Whole numbers that 64 bits hold.
 
-ghost use Rattle.std.specs.Prelude.{◌≡◌, ◌↔◌, ◌<◌, ◌<ℤ◌, ◌^◌, pos, negsuc, true, IsSome, IfSome};
+ghost use Rattle.std.specs.Prelude.{◌≡◌, ◌<◌, ◌^◌, pos, negsuc, true};
 ghost use Rattle.definitions.specs.Values.{fits_64_bits};
 ghost use Rattle.json_doc.specs.Wholes.{as_natural};
 
@@ -70,20 +70,6 @@ impl Whole {
             None
         } else {
             Some(self.distance)
-        }
-    }
-
-    /// The number, if 64 bits hold it with a sign.
-    pub fn as_i64(self) -> Option<i64>
-        ensures number { IfSome result (λ n. n ≡ self) }
-        ensures held { IsSome result ↔ (self <ℤ pos (2 ^ 63)) }
-    {
-        if self.is_negative {
-            Some(-1 - self.distance as i64)
-        } else if self.distance <= i64::MAX as u64 {
-            Some(self.distance as i64)
-        } else {
-            None
         }
     }
 

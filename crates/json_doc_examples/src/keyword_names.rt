@@ -73,7 +73,7 @@ fn are_copies_same(alloc: Global) -> Result<bool, Fault> {
 
 fn rewritten_copy(alloc: Global, text: &str) -> Result<String, Fault> {
     let doc = read(alloc, text.as_bytes())?;
-    write(alloc, &copy(alloc, &doc)?)
+    Ok(write(alloc, &copy(alloc, &doc)?)?)
 }
 
 #[test]
@@ -88,7 +88,7 @@ fn has_its_values(doc: &Doc) -> bool {
     let kind = doc.keyword_value(Keyword::Type);
     let least = doc.keyword_value(Keyword::MinItems);
     kind.is_some_and(|kind| kind.as_str() == Some("array"))
-        && least.is_some_and(|least| least.as_int().is_some())
+        && least.is_some_and(|least| matches!(least, Doc::Int(_)))
         && doc.keyword_value(Keyword::MaxItems).is_none()
 }
 

@@ -82,11 +82,18 @@ const FOUND: &[(&str, &str, Option<u64>)] = &[
     ("an array of two has no third element", "/2", None),
 ];
 
+fn number_of(doc: &Doc) -> Option<u64> {
+    match doc {
+        Doc::Int(number) => number.as_u64(),
+        _ => None,
+    }
+}
+
 fn finds(alloc: Global, text: &str, wanted: Option<u64>) -> Result<bool, Fault> {
     let doc = read(alloc, b"[7,[8]]")?;
     let pointer = Pointer::parse(alloc, text)?;
-    let number = find(&doc, &pointer).and_then(|found| found.as_int());
-    Ok(number.and_then(|it| it.as_u64()) == wanted)
+    let number = find(&doc, &pointer).and_then(|found| number_of(found));
+    Ok(number == wanted)
 }
 
 fn expect_found(rt: &impl Abort, alloc: Global, row: &(&str, &str, Option<u64>)) {

@@ -7,7 +7,7 @@ use std::process::Abort;
 
 // What the text is written as once it is read.
 fn rewritten(alloc: Global, text: &[u8]) -> Result<String, Fault> {
-    write(alloc, &read(alloc, text)?)
+    Ok(write(alloc, &read(alloc, text)?)?)
 }
 
 // Why a text is read so or refused, the text, and what it is written as, or the fault.
@@ -176,13 +176,20 @@ fn falling(alloc: Global, count: u32) -> Result<String, Fault> {
     Ok(text)
 }
 
+fn is_one(doc: &Doc) -> bool {
+    match doc {
+        Doc::Int(number) => *number == Whole::of(1),
+        _ => false,
+    }
+}
+
 // Whether the object has so many members, each of them 1 but that of the empty name.
 fn has_last_values(doc: &Doc, count: usize) -> bool {
     let Some(members) = doc.as_dict() else {
         return false;
     };
     for (name, member) in members.iter() {
-        if !name.is_empty() && member.as_int() != Some(Whole::of(1)) {
+        if !name.is_empty() && !is_one(member) {
             return false;
         }
     }

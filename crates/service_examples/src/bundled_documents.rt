@@ -25,7 +25,7 @@ fn listed(alloc: Global, documents: &[(&str, &str)]) -> Result<ListSource, Fault
 pub fn bundle_text(alloc: Global, documents: &[(&str, &str)], uri: &str) -> Result<String, Fault> {
     let mut source = listed(alloc, documents)?;
     let linked = link(alloc, &mut source, uri)?;
-    write(alloc, &bundle(alloc, &linked)?)
+    Ok(write(alloc, &bundle(alloc, &linked)?)?)
 }
 
 /// What the resource with this URI says of the instance.

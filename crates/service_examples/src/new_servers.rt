@@ -41,7 +41,7 @@ fn hub_refusal(
     keys: &[&str],
     capacity: usize,
 ) -> Result<String, Fault> {
-    Hub::new(alloc, tenants(alloc, count, keys)?, capacity)?;
+    Hub::new(alloc, tenants(alloc, count, keys)?, capacity, None)?;
     Ok(String::new(alloc))
 }
 

@@ -1,7 +1,7 @@
 //! A hub behind connections, and the exchange that is sent to it most often.
 
 use connections::Sessions;
-use http_front::{Fault, HubHandler, hub_of, hub_over};
+use http_front::{Fault, HubHandler, hub_of};
 use std::alloc::Global;
 
 /// The file of two tenants.
@@ -62,14 +62,14 @@ pub const BATCH_STORED: &str =
 
 /// No connection yet, to a hub of the two tenants.
 pub fn hub_sessions(alloc: Global) -> Result<Sessions<HubHandler>, Fault> {
-    let hub = hub_of(alloc, TENANTS.as_bytes(), 2)?;
+    let hub = hub_of(alloc, TENANTS.as_bytes(), 2, None)?;
     Ok(Sessions::new(alloc, HubHandler::new(hub)))
 }
 
 /// No connection yet, to a hub of the two tenants over a library of one document.
 pub fn library_sessions(alloc: Global) -> Result<Sessions<HubHandler>, Fault> {
     let library = br#"{"put":[{"schema":{"type":"null"},"uri":"https://ex.org/s"}]}"#;
-    let hub = hub_over(alloc, TENANTS.as_bytes(), 2, library)?;
+    let hub = hub_of(alloc, TENANTS.as_bytes(), 2, Some(library))?;
     Ok(Sessions::new(alloc, HubHandler::new(hub)))
 }
 

@@ -24,9 +24,14 @@ pub fn new_hub(
     capacity: usize,
 ) -> Result<Hub, Fault> {
     let tenants = read_tenants(alloc, filled(alloc, tenants)?.as_bytes())?;
-    match library {
-        Some(batch) => Hub::with_library(alloc, tenants, capacity, batch.as_bytes()),
-        None => Hub::new(alloc, tenants, capacity),
+    Hub::new(alloc, tenants, capacity, bytes_of(library))
+}
+
+/// The bytes of a text, if there is one.
+pub fn bytes_of(text: Option<&str>) -> Option<&[u8]> {
+    match text {
+        Some(text) => Some(text.as_bytes()),
+        None => None,
     }
 }
 

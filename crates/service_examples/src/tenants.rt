@@ -38,7 +38,7 @@ fn read_as(alloc: Global, form: Form, text: &str) -> Result<String, Fault> {
     let text = filled(alloc, text)?;
     match form {
         Form::Tenants => tenants_told(alloc, text.as_bytes()),
-        Form::Body => write(alloc, &read_body(alloc, text.as_bytes())?),
+        Form::Body => Ok(write(alloc, &read_body(alloc, text.as_bytes())?)?),
         Form::Batch => batch_told(alloc, text.as_bytes()),
     }
 }

@@ -1,8 +1,9 @@
 //! Connections from the tenants' file to the last byte.
 
 use crate::served_hubs::{BATCH, BATCH_STORED, EXAMPLE, EXAMPLE_REPLIES};
+use crate::talks::bytes_of;
 use crate::texts::expect_like;
-use http_front::{Fault, run_connection, run_connection_with};
+use http_front::{Fault, hub_of, serve_hub};
 use serving::{MemoryReader, MemoryWriter, Pace};
 use std::alloc::Global;
 use std::process::Abort;
@@ -34,18 +35,8 @@ fn written(
     let bytes = Vec::from_slice(alloc, stream.as_bytes())?;
     let mut reader = MemoryReader::new(bytes, Pace::WHOLE);
     let mut writer = MemoryWriter::new(alloc, Pace::WHOLE);
-    let tenants = tenants.as_bytes();
-    match library {
-        Some(library) => run_connection_with(
-            alloc,
-            tenants,
-            capacity,
-            library.as_bytes(),
-            &mut reader,
-            &mut writer,
-        )?,
-        None => run_connection(alloc, tenants, capacity, &mut reader, &mut writer)?,
-    }
+    let hub = hub_of(alloc, tenants.as_bytes(), capacity, bytes_of(library))?;
+    serve_hub(alloc, hub, &mut reader, &mut writer)?;
     Ok(String::from_utf8_lossy(alloc, writer.bytes())?)
 }
 

@@ -1,6 +1,6 @@
 -- Registries are judged by what their files hold.
 use Rattle.std.proofs.Common.{◌≡◌, ◌≢◌, ℕ, List, Vec, Option, Some, None, Result, Ok, Err, sym, subst, inl, inr}
-use Rattle.std.specs.Prelude.{IfSome, IfErr}
+use Rattle.std.specs.Prelude.{IfSome, IfErr, option_map}
 use Rattle.std.specs.Global.{Global}
 use Rattle.definitions.specs.Batches.{library_of}
 use Rattle.definitions.specs.Faults as meaning
@@ -14,12 +14,13 @@ use Rattle.faults.specs.declared.Fault.TheVariants.{NoRoom}
 use Rattle.command_line.specs.Calls.{Start}
 use Rattle.http_front.specs.Libraries.{OnLibraryOf}
 use Rattle.http_front.specs.Servers.{server_of}
-use Rattle.http_front.proofs.Libraries.{each_library}
+use Rattle.tenant_hub.specs.RefusedServers.{given_library}
+use Rattle.http_front.proofs.Libraries.{any_library, each_library}
 use Rattle.http_front.proofs.Refused.{is_no_room}
 use Rattle.service_forms.specs.declared.service.Sources.{Sources}
 use Rattle.service_forms.specs.declared.stop.Stop.{Stop}
 use Rattle.service_forms.specs.declared.stop.Stop.TheVariants.{Words, NotText, CannotRead, Refused, CannotWrite, CannotListen, CannotAccept, CannotLog, Told, TooManyConnections, Store}
-use Rattle.service_forms.specs.Services.{HoldsLibrary, HoldsSources, IsRefusedStart, OnLibrary, OnLibraryIn, OnServer, OnServerIn, Server}
+use Rattle.service_forms.specs.Services.{HoldsLibrary, HoldsSources, IsRefusedStart, OnLibrary, OnServer, OnServerIn, Server, batch_of}
 use Rattle.service_forms.specs.Stops.{IsUnreadAmong}
 
 at_text : (P : Text → Type 0) (read : Text) (known : Option Text) → IfSome known (λ text. read ≡ text) → P read → IfSome known P
@@ -27,11 +28,11 @@ at_text P read None h p = tt
 at_text P read (Some text) h p = subst P h p
 
 on_library : (files : Text → Option Text) (path : Option Text) (bytes : Option (Vec ℕ Global)) (P : Result (List Document) meaning.Fault → Type 0)
-    → HoldsLibrary files path bytes → OnLibraryIn bytes P → OnLibrary files path P
+    → HoldsLibrary files path bytes → OnLibraryOf (option_map (λ b. b.items) bytes) P → OnLibrary files path P
 on_library files None None P h p = p
 on_library files None (Some bytes) P h p = absurd h
 on_library files (Some path) None P h p = absurd h
-on_library files (Some path) (Some bytes) P h p = at_text (λ batch. OnLibraryOf batch P) bytes.items (files path) h p
+on_library files (Some path) (Some bytes) P h p = at_text (λ batch. OnLibraryOf (Some batch) P) bytes.items (files path) h p
 
 -- what holds of the server that was read
 pub on_server : (files : Text → Option Text) (start : Start) (sources : Sources) (P : Server → Type 0)
@@ -43,14 +44,9 @@ on_server files start sources P h p =
 -- what follows for each server follows for the one of what was read
 pub each_server : (sources : Sources) (capacity : ℕ) (P Q : Server → Type 0) → ((s : Server) → P s → Q s)
     → OnServerIn sources capacity P → OnServerIn sources capacity Q
-each_server sources capacity P Q f h = by sources.library h
-  where
-    server : Result (List Document) meaning.Fault → Server
-    server library = server_of sources.tenants.items capacity library
-
-    by : (library : Option (Vec ℕ Global)) → OnLibraryIn library (λ l. P (server l)) → OnLibraryIn library (λ l. Q (server l))
-    by None p = f _ p
-    by (Some batch) p = each_library batch.items (λ l. P (server l)) (λ l. Q (server l)) (λ l q. f (server l) q) p
+each_server sources capacity P Q f h =
+    let server = λ (library : Result (List Document) meaning.Fault). server_of sources.tenants.items capacity library in
+    each_library (batch_of sources) (λ l. P (server l)) (λ l. Q (server l)) (λ l p. f (server l) p) h
 
 pub all_known : (P Q : Text → Type 0) (known : Option Text) → ((text : Text) → P text → Q text) → IfSome known P → IfSome known Q
 all_known P Q None f p = tt
@@ -60,7 +56,7 @@ all_libraries : (files : Text → Option Text) (path : Option Text) (P Q : Resul
     → ((l : Result (List Document) meaning.Fault) → P l → Q l) → OnLibrary files path P → OnLibrary files path Q
 all_libraries files None P Q f p = f _ p
 all_libraries files (Some path) P Q f p =
-    all_known (λ batch. OnLibraryOf batch P) (λ batch. OnLibraryOf batch Q) (files path) (λ batch h. each_library batch P Q f h) p
+    all_known (λ batch. OnLibraryOf (Some batch) P) (λ batch. OnLibraryOf (Some batch) Q) (files path) (λ batch h. each_library (Some batch) P Q f h) p
 
 -- what follows for each server follows for the one that files give
 pub on_servers : (files : Text → Option Text) (start : Start) (P Q : Server → Type 0) → ((s : Server) → P s → Q s) → OnServer files start P → OnServer files start Q
@@ -78,7 +74,7 @@ known P (Some text) f = f text
 libraries : (files : Text → Option Text) (path : Option Text) (P : Result (List Document) meaning.Fault → Type 0)
     → ((l : Result (List Document) meaning.Fault) → P l) → OnLibrary files path P
 libraries files None P f = f _
-libraries files (Some path) P f = known (λ batch. OnLibraryOf batch P) (files path) (λ batch. inl (f (library_of regular_search batch)))
+libraries files (Some path) P f = known (λ batch. OnLibraryOf (Some batch) P) (files path) (λ batch. inl (f (library_of regular_search batch)))
 
 -- what holds of each server holds of the one that files give
 pub every_server : (files : Text → Option Text) (start : Start) (P : Server → Type 0) → ((server : Server) → P server) → OnServer files start P
@@ -111,29 +107,22 @@ lacking : (f : Fault) (server : Server) → f ≡ NoRoom → IsRefusedStart serv
 lacking f (Ok ks) e = e
 lacking f (Err g) e = λ other. absurd (other e)
 
-any_library : (library : Option (Vec ℕ Global)) (P : Result (List Document) meaning.Fault → Type 0)
-    → ((l : Result (List Document) meaning.Fault) → P l) → OnLibraryIn library P
-any_library None P f = f _
-any_library (Some batch) P f = inl (f (library_of regular_search batch.items))
-
 pub refused_start : (f : Fault) (sources : Sources) (capacity : ℕ) → (f ≢ NoRoom → OnServerIn sources capacity (λ server. server ≡ Err (fault_view f)))
     → OnServerIn sources capacity (λ server. IsRefusedStart server (Refused f))
 refused_start f sources capacity why = elim (is_no_room f) [
-  | inl e ↦ any_library sources.library (λ l. IsRefusedStart (server_of sources.tenants.items capacity l) (Refused f))
-      (λ l. lacking f (server_of sources.tenants.items capacity l) e)
+  | inl e ↦ any_library (batch_of sources) (λ l. IsRefusedStart (server_of sources.tenants.items capacity l) (Refused f)) (lacking f _ e)
   | inr other ↦ each_server sources capacity (λ server. server ≡ Err (fault_view f)) (λ server. IsRefusedStart server (Refused f)) (refused_alike f) (why other)
 ]
 
--- refused over the same texts
-pub refused_over : (T : Type 0) (t u a b : Text) (capacity : ℕ) (r : Result T Fault) → t ≡ u → a ≡ b
+-- made, or refused, over the same texts
+pub made_over : (t u : Text) (a b : Option Text) (capacity : ℕ) (ks : List KeyedRegistry) → t ≡ u → a ≡ b
+    → server_of t capacity (given_library a) ≡ Ok ks → OnLibraryOf b (λ l. server_of u capacity l ≡ Ok ks)
+made_over t u a b capacity ks e k h =
+    any_library b (λ l. server_of u capacity l ≡ Ok ks) (subst (λ o. server_of u capacity (given_library o) ≡ Ok ks) k (subst (λ x. server_of x capacity (given_library a) ≡ Ok ks) e h))
+
+pub refused_over : (T : Type 0) (t u : Text) (a b : Option Text) (capacity : ℕ) (r : Result T Fault) → t ≡ u → a ≡ b
     → IfErr r (λ f. f ≢ NoRoom → OnLibraryOf a (λ l. server_of t capacity l ≡ Err (fault_view f)))
     → IfErr r (λ f. f ≢ NoRoom → OnLibraryOf b (λ l. server_of u capacity l ≡ Err (fault_view f)))
 refused_over T t u a b capacity r e k h =
-    subst (λ x. IfErr r (λ f. f ≢ NoRoom → OnLibraryOf x (λ l. server_of u capacity l ≡ Err (fault_view f)))) k
+    subst (λ o. IfErr r (λ f. f ≢ NoRoom → OnLibraryOf o (λ l. server_of u capacity l ≡ Err (fault_view f)))) k
     (subst (λ x. IfErr r (λ f. f ≢ NoRoom → OnLibraryOf a (λ l. server_of x capacity l ≡ Err (fault_view f)))) e h)
-
-pub refused_in : (T : Type 0) (sources : Sources) (capacity : ℕ) (batch : Vec ℕ Global) (r : Result T Fault) → sources.library ≡ Some batch
-    → IfErr r (λ f. f ≢ NoRoom → OnLibraryOf batch.items (λ l. server_of sources.tenants.items capacity l ≡ Err (fault_view f)))
-    → IfErr r (λ f. f ≢ NoRoom → OnServerIn sources capacity (λ server. server ≡ Err (fault_view f)))
-refused_in T sources capacity batch r e h =
-    subst (λ (o : Option (Vec ℕ Global)). IfErr r (λ f. f ≢ NoRoom → OnLibraryIn o (λ l. server_of sources.tenants.items capacity l ≡ Err (fault_view f)))) (sym e) h

@@ -11,7 +11,7 @@ use Rattle.service_forms.specs.declared.stop.Stop.TheVariants.{Words, NotText, C
 use Rattle.service_forms.specs.Endings.{EndsListening, EndsReading, EndsService, StopsReading, files_of, up_to_unreadable}
 use Rattle.network.specs.Traffic.{Moved}
 use Rattle.serving.specs.Transfers.{Transfer}
-use Rattle.service_forms.specs.Services.{AreServedSo, EndsRun, Server, Serving}
+use Rattle.service_forms.specs.Services.{AreServedSo, EndsRun, IsRefusedStart, Server, Serving}
 use Rattle.service_forms.specs.Stops.{IsStopOf, IsUnopened, IsUnreadAmong}
 
 pub unread_reading : (names : List Text) (address : Option Text) (stop : Stop) → IsUnreadAmong names stop → StopsReading names address stop
@@ -87,16 +87,16 @@ served_so serves reads writes more others r end none unwritten same h = (more, o
 
 -- ---- a connection on standard input and output
 -- what ends a connection before it begins
-pub unbegun_run : (names : List Text) (stop : Stop) → IsUnreadAmong names stop → (reads writes : List Transfer) (server : Server)
-    → EndsRun server reads writes (Err stop) reads writes
-unbegun_run names (CannotRead name) h reads writes server = (refl, refl)
-unbegun_run names (Refused f) h reads writes server = refused_run server reads writes f (λ other. absurd (other h))
-unbegun_run names (Words e) h reads writes server = absurd h
-unbegun_run names NotText h reads writes server = absurd h
-unbegun_run names CannotWrite h reads writes server = absurd h
-unbegun_run names (CannotListen a) h reads writes server = absurd h
-unbegun_run names CannotAccept h reads writes server = absurd h
-unbegun_run names (CannotLog path) h reads writes server = absurd h
-unbegun_run names (TooManyConnections most) h reads writes server = absurd h
-unbegun_run names Told h reads writes server = absurd h
-unbegun_run names (Store s) h reads writes server = absurd h
+pub unbegun_run : (stop : Stop) (server : Server) (reads writes : List Transfer) → IsRefusedStart server stop → EndsRun server reads writes (Err stop) reads writes
+unbegun_run (CannotRead name) server reads writes h = (refl, refl)
+unbegun_run (Refused f) (Ok ks) reads writes h = refused_run (Ok ks) reads writes f (λ other. absurd (other h))
+unbegun_run (Refused f) (Err g) reads writes h = refused_run (Err g) reads writes f (λ other. ap Err (h other))
+unbegun_run (Words e) server reads writes h = absurd h
+unbegun_run NotText server reads writes h = absurd h
+unbegun_run CannotWrite server reads writes h = absurd h
+unbegun_run (CannotListen a) server reads writes h = absurd h
+unbegun_run CannotAccept server reads writes h = absurd h
+unbegun_run (CannotLog path) server reads writes h = absurd h
+unbegun_run (TooManyConnections most) server reads writes h = absurd h
+unbegun_run Told server reads writes h = absurd h
+unbegun_run (Store s) server reads writes h = absurd h

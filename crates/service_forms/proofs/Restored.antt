@@ -30,7 +30,8 @@ use Rattle.stored_hub.specs.Storing.{Finds}
 use Rattle.stored_rows.specs.Restoring.{emptied}
 use Rattle.stored_rows.specs.Rows.{Row}
 use Rattle.service_forms.specs.Endings.{EndsListening}
-use Rattle.service_forms.specs.Services.{AreServedSo, OnLibraryIn, OnServerIn}
+use Rattle.http_front.specs.Libraries.{OnLibraryOf}
+use Rattle.service_forms.specs.Services.{AreServedSo, OnServerIn, batch_of}
 use Rattle.service_forms.specs.Stored.{AreTalksKept, ServeDurably, ServeStoredInTurn, ServesFound, ServesKept}
 use Rattle.service_forms.specs.declared.stop.Stop.{Stop}
 use Rattle.service_forms.specs.declared.service.Sources.{Sources}
@@ -44,12 +45,12 @@ served_empty law (Err f) capacity library ks e = absurd (cc e)
 -- they have no documents yet
 pub files_empty : NewServersHaveNoDocuments → (sources : Sources) (capacity : ℕ) (ks : List KeyedRegistry)
     → OnServerIn sources capacity (λ server. server ≡ Ok ks) → emptied ks ≡ ks
-files_empty law sources capacity ks h = by sources.library h
+files_empty law sources capacity ks h = by (batch_of sources) h
   where
     none : (library : Result (List Document) meaning.Fault) → server_of sources.tenants.items capacity library ≡ Ok ks → emptied ks ≡ ks
     none library e = served_empty law (file_tenants sources.tenants.items) capacity library ks e
 
-    by : (library : Option (Vec ℕ Global)) → OnLibraryIn library (λ l. server_of sources.tenants.items capacity l ≡ Ok ks) → emptied ks ≡ ks
+    by : (library : Option Text) → OnLibraryOf library (λ l. server_of sources.tenants.items capacity l ≡ Ok ks) → emptied ks ≡ ks
     by None e = none _ e
     by (Some batch) x = elim x [
       | inl e ↦ none _ e

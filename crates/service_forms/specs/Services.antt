@@ -36,6 +36,10 @@ HoldsLibrary files None None = ⊤
 HoldsLibrary files (Some path) (Some bytes) = IfSome (files path) (λ text. bytes.items ≡ text)
 HoldsLibrary files _ _ = ⊥
 
+-- the batch of the library, if there is one
+abbrev pub batch_of : Sources → Option Text
+batch_of sources = option_map (λ b. b.items) sources.library
+
 abbrev pub HoldsSources : (Text → Option Text) → Start → Sources → Type 0
 HoldsSources files start sources =
     IfSome (files start.tenants) (λ text. sources.tenants.items ≡ text) × HoldsLibrary files start.library sources.library
@@ -44,18 +48,14 @@ HoldsSources files start sources =
 abbrev pub Server : Type 0
 Server = Result (List KeyedRegistry) meaning.Fault
 
-abbrev pub OnLibraryIn : Option (Vec ℕ Global) → (Result (List Document) meaning.Fault → Type 0) → Type 0
-OnLibraryIn None P = P (Ok [])
-OnLibraryIn (Some batch) P = OnLibraryOf batch.items P
-
 -- what holds of the registries of what the files hold
 abbrev pub OnServerIn : Sources → ℕ → (Server → Type 0) → Type 0
-OnServerIn sources capacity P = OnLibraryIn sources.library (λ library. P (server_of sources.tenants.items capacity library))
+OnServerIn sources capacity P = OnLibraryOf (batch_of sources) (λ library. P (server_of sources.tenants.items capacity library))
 
 -- what holds of the library that the file gives, where it is known what files hold
 abbrev pub OnLibrary : (Text → Option Text) → Option Text → (Result (List Document) meaning.Fault → Type 0) → Type 0
-OnLibrary files None P = P (Ok [])
-OnLibrary files (Some path) P = IfSome (files path) (λ batch. OnLibraryOf batch P)
+OnLibrary files None P = OnLibraryOf None P
+OnLibrary files (Some path) P = IfSome (files path) (λ batch. OnLibraryOf (Some batch) P)
 
 abbrev pub OnServer : (Text → Option Text) → Start → (Server → Type 0) → Type 0
 OnServer files start P =

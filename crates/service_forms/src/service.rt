@@ -2,21 +2,19 @@
 ghost use Rattle.std.specs.Prelude.{◌≡◌, ◌≢◌, List, Option, None, Some, Ok, Err, IfOk, IfErr};
 ghost use Rattle.definitions.specs.Values.{Text};
 ghost use Rattle.faults.specs.View.{fault_view};
-ghost use Rattle.http_front.specs.Running.{IsRun};
 ghost use Rattle.command_line.specs.Calls.{setup_view};
 ghost use Rattle.service_forms.specs.Endings.{EndsListening, EndsReading, EndsService, ReadsInOrder, StopsReading, files_of, library_name};
-ghost use Rattle.service_forms.specs.Services.{EndsRun, EndsServing, HoldsLibrary, HoldsSources, IsRefusedStart, OnServer, OnServerIn, ServeInTurn, path_view};
+ghost use Rattle.service_forms.specs.Services.{EndsRun, EndsServing, HoldsLibrary, HoldsSources, batch_of, IsRefusedStart, OnServer, OnServerIn, ServeInTurn, path_view};
 ghost use Rattle.service_forms.specs.Stops.{IsUnopened, IsUnreadAmong};
 ghost use Rattle.stored_rows.specs.Restoring.{emptied};
 ghost use Rattle.tenant_hub.specs.Hubs.{hub_view};
+ghost use Rattle.tenant_hub.specs.RefusedServers.{batch_view};
 
 use crate::files::Texts;
 use crate::stop::Stop;
 use command_line::Setup;
 use faults::Fault;
-use http_front::{
-    Hub, HubHandler, Sessions, hub_of, hub_over, run_connection, run_connection_with,
-};
+use http_front::{Hub, HubHandler, Sessions, hub_of, serve_hub};
 use serving::{ByteReader, ByteWriter};
 use sockets::{Limits, bind, serve_connections};
 use std::alloc::Global;
@@ -30,6 +28,18 @@ use stored_hub::new_servers_have_no_documents;
 pub struct Sources {
     pub tenants: Vec<u8>,
     pub library: Option<Vec<u8>>,
+}
+
+impl Sources {
+    // The batch of the library, if there is one.
+    fn batch(&self) -> Option<&[u8]>
+        ensures { batch_view result ≡ batch_of self.now }
+    {
+        match &self.library {
+            Some(library) => Some(library.as_slice()),
+            None => None,
+        }
+    }
 }
 
 /// Reads the file of the library, if there is one.
@@ -73,40 +83,19 @@ fn read_sources<'a, F: Texts>(
     }
 }
 
-/// Serves one connection over new registries.
-fn connect<R: ByteReader, W: ByteWriter>(
-    alloc: Global,
-    sources: &Sources,
-    capacity: usize,
-    reader: &mut R,
-    writer: &mut W,
-) -> Result<(), Fault>
-    ensures { OnServerIn sources.now capacity (λ server. IsRun server (R.reads reader.old)
-        (W.writes writer.old) result (R.reads reader.new) (W.writes writer.new)) }
-{
-    let tenants = sources.tenants.as_slice();
-    match &sources.library {
-        None => run_connection(alloc, tenants, capacity, reader, writer),
-        Some(library) => {
-            run_connection_with(alloc, tenants, capacity, library.as_slice(), reader, writer)
-        }
-    }
-}
-
-/// Serves one connection over new registries, and gives the status 0.
+/// Serves one connection over these registries, and gives the status 0.
 fn run_over<'a, R: ByteReader, W: ByteWriter>(
     alloc: Global,
-    sources: &Sources,
-    capacity: usize,
+    hub: Hub,
     reader: &mut R,
     writer: &mut W,
 ) -> Result<u8, Stop<'a>>
     ensures reading { (names : List Text) → EndsReading names None result }
     ensures status { IfOk result (λ status. status ≡ 0) }
-    ensures ran { OnServerIn sources.now capacity (λ server. EndsRun server (R.reads reader.old)
-        (W.writes writer.old) result (R.reads reader.new) (W.writes writer.new)) }
+    ensures ran { EndsRun (Ok (hub_view hub)) (R.reads reader.old) (W.writes writer.old)
+        result (R.reads reader.new) (W.writes writer.new) }
 {
-    match connect(alloc, sources, capacity, reader, writer) {
+    match serve_hub(alloc, hub, reader, writer) {
         Ok(()) => Ok(0),
         Err(fault) => Err(Stop::Refused(fault)),
     }
@@ -125,8 +114,8 @@ pub fn run<'a, F: Texts, R: ByteReader, W: ByteWriter>(
         (λ server. EndsRun server (R.reads reader.old) (W.writes writer.old) result
         (R.reads reader.new) (W.writes writer.new)) }
 {
-    match read_sources(alloc, files, setup) {
-        Ok(sources) => run_over(alloc, &sources, setup.cache as usize, reader, writer),
+    match new_hub(alloc, files, setup) {
+        Ok(hub) => run_over(alloc, hub, reader, writer),
         Err(stop) => Err(stop),
     }
 }
@@ -138,11 +127,7 @@ fn hub(alloc: Global, sources: &Sources, capacity: usize) -> Result<Hub, Fault>
     ensures err { IfErr result (λ f. f ≢ Fault.NoRoom
         → OnServerIn sources.now capacity (λ server. server ≡ Err (fault_view f))) }
 {
-    let tenants = sources.tenants.as_slice();
-    match &sources.library {
-        None => hub_of(alloc, tenants, capacity),
-        Some(library) => hub_over(alloc, tenants, capacity, library.as_slice()),
-    }
+    hub_of(alloc, sources.tenants.as_slice(), capacity, sources.batch())
 }
 
 /// Makes new registries at the start of a call. Where they are refused, that is why the call stops.

@@ -1,6 +1,6 @@
 -- The registries of a new server.
-use Rattle.std.proofs.Common.{◌≡◌, ◌++◌, ℕ, List, [], ◌∷◌, Bool, true, false, not, None, Some, Result, Ok, Err, map, refl, sym, ap, ◌∙◌, inl, inr}
-use Rattle.definitions.specs.Batches.{batch_entries, library_of}
+use Rattle.std.proofs.Common.{◌≡◌, ◌++◌, ℕ, List, [], ◌∷◌, Bool, true, false, not, Option, None, Some, Result, Ok, Err, map, refl, sym, ap, ◌∙◌, inl, inr}
+use Rattle.definitions.specs.Batches.{library_of}
 use Rattle.definitions.specs.Caches.{is_capacity}
 use Rattle.definitions.specs.Faults.{Fault, bad_capacity}
 use Rattle.definitions.specs.Lists.{first, when}
@@ -10,11 +10,10 @@ use Rattle.definitions.specs.Services as meaning
 use Rattle.definitions.specs.Tenants as tenants
 use Rattle.definitions.specs.Tenants.{server_fault, unless_refused, over_library, new_server, empty_registries}
 use Rattle.definitions.specs.Values.{Text}
-use Rattle.tenant_documents.specs.EntryRefusals.{IsRefusedLibrary}
 use Rattle.tenants_file.specs.Tenants.{tenant_view}
 use Rattle.tenants_file.specs.declared.tenants.Tenant.{Tenant}
 use Rattle.tenant_hub.specs.KeyedRegistries.{keyed_view, new_registry}
-use Rattle.tenant_hub.specs.RefusedServers.{IsRefusedServer}
+use Rattle.tenant_hub.specs.RefusedServers.{IsRefusedBatch, IsRefusedServer}
 use Rattle.tenant_hub.specs.declared.keyed_registry.KeyedRegistry.{KeyedRegistry}
 
 map-twice : {A B C : Type 0} (f : B → C) (g : A → B) (xs : List A) → map f (map g xs) ≡ map (λ x. f (g x)) xs
@@ -43,6 +42,7 @@ module _ (ts : List tenants.Tenant) (n : ℕ) where
   pub fault_refused : (r : Result (List Document) Fault) (f : Fault) → Some f ≡ server_fault ts n → new_server ts n r ≡ Err f
   fault_refused r f e = ap (λ o. unless_refused o ts r) (sym e)
 
-  pub library_not_made : (bytes : Text) (f : Fault) → None ≡ server_fault ts n → IsRefusedLibrary (batch_entries bytes) f → IsRefusedServer ts n bytes f
-  library_not_made bytes f none (inl e) = inl (library_refused (library_of regular_search bytes) f none e)
-  library_not_made bytes f none (inr s) = inr (s.0, sym none, s.1)
+  pub library_not_made : (library : Option Text) (f : Fault) → None ≡ server_fault ts n → IsRefusedBatch library f → IsRefusedServer ts n library f
+  library_not_made None f none refused = absurd refused
+  library_not_made (Some batch) f none (inl e) = inl (library_refused (library_of regular_search batch) f none e)
+  library_not_made (Some batch) f none (inr s) = inr (s.0, sym none, s.1)

@@ -1,8 +1,7 @@
 //! The registries of all tenants.
 
-ghost use Rattle.std.specs.Prelude.{◌≡◌, ◌≢◌, [], false, true, Ok, Err, IfOk, IfErr, OnErr, map, option_map};
+ghost use Rattle.std.specs.Prelude.{◌≡◌, ◌≢◌, false, true, Ok, Err, IfOk, IfErr, OnErr, map, option_map};
 ghost use Rattle.std.specs.List.{list_all};
-ghost use Rattle.definitions.specs.Batches.{library_of};
 ghost use Rattle.definitions.specs.Caches.{is_capacity};
 ghost use Rattle.definitions.specs.Patterns.{regular_search};
 ghost use Rattle.definitions.specs.Services.{IsCallAnswer, CallCourse};
@@ -18,7 +17,7 @@ ghost use Rattle.tenant_hub.specs.Hubs.{cache_capacity, hub_view};
 ghost use Rattle.tenant_hub.specs.KeyedRegistries.{keyed_view, new_registry, position_of};
 ghost use Rattle.tenant_hub.specs.PutBack.{IsRestored, stored_texts_of};
 ghost use Rattle.tenant_hub.specs.Isolation.{HaveOwnCourses, HaveOwnReplies, RefuseUnknownKeys};
-ghost use Rattle.tenant_hub.specs.RefusedServers.{IsRefusedServer};
+ghost use Rattle.tenant_hub.specs.RefusedServers.{IsRefusedBatch, IsRefusedServer, batch_view, given_library};
 ghost use Rattle.tenant_hub.specs.RegisteredDocuments.{is_registered};
 ghost use Rattle.tenant_hub.specs.ServedBundles.{AnswersAlone};
 
@@ -48,47 +47,31 @@ pub struct Hub {
 }
 
 impl Hub {
-    /// A registry without documents for each tenant.
+    /// A registry without documents for each tenant, over the library that a batch gives, if there is one: its documents are seen by
+    /// every tenant, and no request changes them.
     ///
     /// The first of these faults is answered: `BadCapacity` where the capacity is outside 1 to 4096, `TooManyTenants` above
     /// 64 tenants, `BadTenants` where a key isn't 1 to 64 characters from 0x21 to 0x7E, `DuplicateTenant` where two tenants
-    /// have one key. `NoRoom` may take the place of any answer.
-    pub fn new(alloc: Global, tenants: Vec<Tenant>, capacity: usize) -> Result<Hub, Fault>
-        ensures ok { IfOk result (λ h.
-            new_server (map tenant_view tenants.items) capacity (Ok []) ≡ Ok (hub_view h)) }
-        ensures err { IfErr result (λ f. f ≢ Fault.NoRoom
-            → new_server (map tenant_view tenants.items) capacity (Ok []) ≡ Err (fault_view f)) }
-        ensures cache { IfOk result (λ h. cache_capacity h ≡ capacity) }
-    {
-        match server_fault(&tenants, capacity) {
-            Some(fault) => Err(fault),
-            None => over_library(alloc, tenants, capacity, ListSource::new(alloc)),
-        }
-    }
-
-    /// A registry without documents for each tenant, over a library, which a batch gives: its documents are seen by every tenant,
-    /// and no request changes them.
-    ///
-    /// After the faults of [`Hub::new`] come those of the batch, the first of these: `TooLarge` above 1,048,576 bytes,
-    /// `BadJson`, `BadNumber`, `BadBatch`; of each entry in turn `BadUri`, those of a scan and `BadPattern`; `SameDocument`
-    /// with the least canonical URI that two entries have; `Taken` with the least resource URI that two of its documents
-    /// have. `NoRoom` may take the place of any answer, and `BadPattern` may be for a pattern that can be read and is too big
-    /// once it is built.
-    pub fn with_library(
+    /// have one key. Then come those of the batch, the first of these: `TooLarge` above 1,048,576 bytes, `BadJson`, `BadNumber`,
+    /// `BadBatch`; of each entry in turn `BadUri`, those of a scan and `BadPattern`; `SameDocument` with the least canonical URI
+    /// that two entries have; `Taken` with the least resource URI that two of its documents have. `NoRoom` may take the place of
+    /// any answer, and `BadPattern` may be for a pattern that can be read and is too big once it is built.
+    pub fn new(
         alloc: Global,
         tenants: Vec<Tenant>,
         capacity: usize,
-        batch: &[u8],
+        library: Option<&[u8]>,
     ) -> Result<Hub, Fault>
         ensures ok { IfOk result (λ h. new_server (map tenant_view tenants.items) capacity
-            (library_of regular_search batch.now) ≡ Ok (hub_view h)) }
+            (given_library (batch_view library.entry)) ≡ Ok (hub_view h)) }
         ensures err { IfErr result (λ f. f ≢ Fault.NoRoom
-            → IsRefusedServer (map tenant_view tenants.items) capacity batch.now (fault_view f)) }
+            → IsRefusedServer (map tenant_view tenants.items) capacity
+            (batch_view library.entry) (fault_view f)) }
         ensures cache { IfOk result (λ h. cache_capacity h ≡ capacity) }
     {
         match server_fault(&tenants, capacity) {
             Some(fault) => Err(fault),
-            None => over_library(alloc, tenants, capacity, library_of(alloc, batch)?),
+            None => over_library(alloc, tenants, capacity, read_library(alloc, library)?),
         }
     }
 
@@ -262,6 +245,20 @@ impl Hub {
             }
         }
         Ok(replies)
+    }
+}
+
+// The library that the batch gives, if there is one; else it has no documents.
+fn read_library(alloc: Global, batch: Option<&[u8]>) -> Result<ListSource, Fault>
+    ensures ok { IfOk result
+        (λ l. given_library (batch_view batch.entry) ≡ Ok (listed_documents l)) }
+    ensures registered { IfOk result (λ l. list_all is_registered (listed_documents l) ≡ true) }
+    ensures err { IfErr result
+        (λ f. f ≢ Fault.NoRoom → IsRefusedBatch (batch_view batch.entry) (fault_view f)) }
+{
+    match batch {
+        Some(batch) => library_of(alloc, batch),
+        None => Ok(ListSource::new(alloc)),
     }
 }
 

@@ -26,7 +26,7 @@ returns-in-Some-2-clause-ok c =
     let uri = c.args.uri.now in
     let d = compiled_view c.in-Some-2.document.value in
     let found : find (holds_resource uri) (listed_documents r.library.value) ≡ Some d =
-    ap (λ l. find (holds_resource uri) (listed_documents l)) (sym c.deref-in-None.ensures) ∙ sym c.in_ok-document-in-None.ensures.ok ∙ ap (option_map (λ x. compiled_view x.value)) c.in-Some-2.is in
+    ap (λ l. find (holds_resource uri) (listed_documents l)) (sym c.deref-in-None.ensures) ∙ sym c.in_ok-document-in-None.ensures ∙ ap (option_map (λ x. compiled_view x.value)) c.in-Some-2.is in
     c.ne-in-Some-2.ensures ∙ ap (λ t. not (same_text named t)) (c.canonical-in-Some-2.ensures ∙ ap (λ x. (compiled_view x).canonical) c.deref-in-Some-2.ensures)
     ∙ sym (held_in_library (documents_in r.documents) (listed_documents r.library.value) uri named (Some d) (registry_both r) (sym c.in-None.ensures) found)
 
@@ -36,5 +36,5 @@ returns-in-None-2-clause-ok c =
     let r = c.args.registry.now in
     let uri = c.args.uri.now in
     let found : find (holds_resource uri) (listed_documents r.library.value) ≡ None =
-    ap (λ l. find (holds_resource uri) (listed_documents l)) (sym c.deref-in-None.ensures) ∙ sym c.in_ok-document-in-None.ensures.ok ∙ ap (option_map (λ x. compiled_view x.value)) c.in-None-2.is in
+    ap (λ l. find (holds_resource uri) (listed_documents l)) (sym c.deref-in-None.ensures) ∙ sym c.in_ok-document-in-None.ensures ∙ ap (option_map (λ x. compiled_view x.value)) c.in-None-2.is in
     sym (held_in_library (documents_in r.documents) (listed_documents r.library.value) uri c.args.canonical_uri.now None (registry_both r) (sym c.in-None.ensures) found)

@@ -1,5 +1,5 @@
 use Rattle.std.proofs.Common.{Ok, Err, sym, ap, ap₂, ◌∙◌}
-use Rattle.std.proofs.lemmas.Result.{IfOk-weaker, err_from_is_err_and}
+use Rattle.std.proofs.lemmas.Result.{err_from_is_err_and}
 use Rattle.definitions.specs.Reach.{reach}
 use Rattle.definitions.specs.Registries.{bundled}
 use Rattle.definitions.specs.Resolution.{base_form}
@@ -57,4 +57,4 @@ returns-clause-ok g c =
     (c.in_ok-base.ensures.ok ∙ ap Ok (sym c.as_str.ensures.value)) c.in_ok-has_document.ensures.ok c.if-not-branch.false
     (ap link_fault (sym same) ∙ c.in_ok-linked.ensures.ok) (c.in_ok-linked.ensures.documents ∙ same) (c.in_ok-linked.ensures.uri ∙ uri)
     c.in_ok-whole.ensures.ok in
-    IfOk-weaker c.write.result _ _ (λ t says. made ∙ ap bundled (sym says)) c.write.ensures.text
+    made ∙ ap bundled (sym c.in_ok-write.ensures.text)

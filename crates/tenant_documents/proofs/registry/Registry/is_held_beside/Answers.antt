@@ -29,5 +29,5 @@ returns-in_ok-library_holder-in-None-clause-ok c = λ texts set.
     let uri = c.args.uri.now in
     c.is_some.ensures
     ∙ some_mapped (λ (x : Rc Compiled Global). compiled_view x.value) c.in_ok-library_holder-in-None.field-0
-    ∙ ap is_some (c.in_ok-library_holder-in-None.ensures.ok ∙ ap (λ l. find (holds_resource uri) (listed_documents l)) c.deref-in-None.ensures)
+    ∙ ap is_some (c.in_ok-library_holder-in-None.ensures ∙ ap (λ l. find (holds_resource uri) (listed_documents l)) c.deref-in-None.ensures)
     ∙ ap (λ o. stays texts o (find (holds_resource uri) (listed_documents c.args.self.now.library.value))) c.in-None.ensures

@@ -16,11 +16,11 @@ returns-then-branch-clause-ok c =
     let g = registry_view c.args.self.now in
     let named = c.canonical.ensures ∙ ap (λ s. (stored_view s).canonical) c.deref.ensures in
     sym (any_stored (λ (d : Document). is_in_library g d.canonical) c.args.documents.now c.loop-document.document-index c.document-item.result c.loop-document-test.true c.document-item.is
-    (ap (is_in_library g) (sym named) ∙ sym c.in_ok-is_in_library.ensures.ok ∙ c.if-branch.true))
+    (ap (is_in_library g) (sym named) ∙ sym c.in_ok-is_in_library.ensures ∙ c.if-branch.true))
 
 pub loop-document-preserved : goal.loop-document-preserved
 loop-document-preserved c =
     let g = registry_view c.args.self.now in
     let named = c.canonical.ensures ∙ ap (λ s. (stored_view s).canonical) c.deref.ensures in
     none_more (λ (d : Document). is_in_library g d.canonical) c.args.documents.now c.loop-document.document-index c.document-item.result c.loop-document-test.true c.document-item.is
-    c.loop-document.invariant (ap (is_in_library g) (sym named) ∙ sym c.in_ok-is_in_library.ensures.ok ∙ c.if-branch.false)
+    c.loop-document.invariant (ap (is_in_library g) (sym named) ∙ sym c.in_ok-is_in_library.ensures ∙ c.if-branch.false)

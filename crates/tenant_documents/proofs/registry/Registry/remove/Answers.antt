@@ -18,7 +18,7 @@ unfolding registry_view
 returns-then-not-remove-clause-err c =
     let g = registry_view c.args.self.now in
     let uri = string_bytes c.args.canonical in
-    let unowned : is_in_library g uri ≡ false = ap (is_in_library g) (sym c.as_str.ensures.value) ∙ sym c.in_ok-is_in_library.ensures.ok ∙ c.if-branch.false in
+    let unowned : is_in_library g uri ≡ false = ap (is_in_library g) (sym c.as_str.ensures.value) ∙ sym c.in_ok-is_in_library.ensures ∙ c.if-branch.false in
     let absent : is_some (document_of g.documents uri) ≡ false =
     ap (λ u. is_some (document_of g.documents u)) (sym c.as_str-2.ensures.value) ∙ sym c.remove.ensures.removed ∙ c.if-not-remove.true in
     not_found_after g uri (documents_in c.remove.new.self) unowned absent (c.remove.ensures.others ∙ ap (λ u. others_of u g.documents) c.as_str-2.ensures.value)
@@ -28,7 +28,7 @@ unfolding registry_view
 returns-clause-ok c =
     let g = registry_view c.args.self.now in
     let uri = string_bytes c.args.canonical in
-    let unowned : is_in_library g uri ≡ false = ap (is_in_library g) (sym c.as_str.ensures.value) ∙ sym c.in_ok-is_in_library.ensures.ok ∙ c.if-branch.false in
+    let unowned : is_in_library g uri ≡ false = ap (is_in_library g) (sym c.as_str.ensures.value) ∙ sym c.in_ok-is_in_library.ensures ∙ c.if-branch.false in
     let there : is_some (document_of g.documents uri) ≡ true =
     ap (λ u. is_some (document_of g.documents u)) (sym c.as_str-2.ensures.value) ∙ sym c.remove.ensures.removed ∙ c.if-not-remove.false in
     deleted_after g uri (documents_in c.remove.new.self) unowned there (c.remove.ensures.others ∙ ap (λ u. others_of u g.documents) c.as_str-2.ensures.value)

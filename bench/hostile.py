@@ -110,6 +110,11 @@ def patterns_in_turn(elements, size=400_000):
     return take_turns(lambda number: {"pattern": f"{long_of_two(number, size)}|b"}, elements)
 
 
+# The beginnings of documents of definitions: in a resource with a long URI, and below a long name.
+LONG_ID = b'{"$id":"%s/","$defs":{' % (b"i" * 400_000)
+LONG_NAME = b'{"$defs":{"%s":{"$defs":{' % (b"n" * 400_000)
+
+
 def dynamic_within(uri, anchors):
     """Elements that are judged in a resource with this `$id` by dynamic references to each of its anchors in turn."""
     within = {f"d{number}": {"$dynamicAnchor": anchor} for number, anchor in enumerate(anchors)}
@@ -196,6 +201,22 @@ CASES = [
         ("k", "put", f"{SITE}s", members(lambda n: b'"%06d":1' % (999_999 - n)))], "201"),
     Case("put: one anchor twice among 45,000", lambda: [
         ("k", "put", f"{SITE}s", definitions(lambda n: b'"%d":{"$anchor":"a%d"}' % (n, max(n, 1))))], "400 DuplicateAnchor"),
+    Case("put: anchors in a resource with a URI of 400 KB", lambda: [
+        ("k", "put", f"{SITE}s", definitions(lambda n: b'"%d":{"$anchor":"a%d"}' % (n, n), front=LONG_ID))], "503 NoRoom"),
+    Case("put: references in a resource with a URI of 400 KB", lambda: [
+        ("k", "put", f"{SITE}s", definitions(lambda n: b'"%d":{"$ref":"#"}' % n, front=LONG_ID))], "503 NoRoom"),
+    Case("put: resources beside one with a URI of 400 KB", lambda: [
+        ("k", "put", f"{SITE}s", definitions(lambda n: b'"%d":{"$id":"%d"}' % (n, n), front=LONG_ID))], "503 NoRoom"),
+    Case("put: anchors below a name of 400 KB", lambda: [
+        ("k", "put", f"{SITE}s", definitions(lambda n: b'"%d":{"$anchor":"a%d"}' % (n, n), front=LONG_NAME, back=b"}}}}"))],
+        "503 NoRoom"),
+    Case("put: resources below a name of 400 KB", lambda: [
+        ("k", "put", f"{SITE}s", definitions(lambda n: b'"%d":{"$id":"/%d"}' % (n, n), front=LONG_NAME, back=b"}}}}"))],
+        "503 NoRoom"),
+    Case("10,000 references to schemas of a resource with a URI of 400 KB", lambda: check(
+        {"allOf": [{"$ref": f"#/$defs/l/$defs/{n}"} for n in range(10_000)],
+         "$defs": {"l": {"$id": "l" * 400_000, "$defs": {str(n): {"minimum": 0} for n in range(10_000)}}}},
+        1, SITE + "s" * 130), "200 valid"),
     Case("28,000 definitions that each refer to the next", lambda: check(
         {"$defs": {str(n): {"$ref": f"#/$defs/{(n + 1) % 28_000}"} for n in range(28_000)}}, 1), "200 valid"),
     Case("a chain of 999 references", lambda: check(deep_chain(998), 1), "200 valid"),

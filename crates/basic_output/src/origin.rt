@@ -56,15 +56,23 @@ impl<'a> Origin<'a> {
         })
     }
 
+    /// The schema at these steps in the resource with this URI, of which no text is written yet, however long it is. This takes
+    /// no memory.
+    pub fn unwritten(resource: &'a str, steps: Vec<Step<'a>>) -> Origin<'a>
+        ensures { origin_view result ≡ (resource.entry.now, tokens steps.entry.items) }
+    {
+        Origin {
+            resource,
+            steps,
+            head: None,
+        }
+    }
+
     /// The root of the resource with this URI, of which no text is written yet, however long it is. This takes no memory.
     pub fn root(alloc: Global, resource: &'a str) -> Origin<'a>
         ensures { origin_view result ≡ (resource.entry.now, []) }
     {
-        Origin {
-            resource,
-            steps: Vec::new(alloc),
-            head: None,
-        }
+        Origin::unwritten(resource, Vec::new(alloc))
     }
 
     /// The memory that its text was written in, for the next origin, unless the text took more than 1,048,576 bytes.

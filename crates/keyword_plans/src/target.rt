@@ -6,9 +6,11 @@ ghost use Rattle.linker.specs.LinkedDocuments.{linked_schemas};
 ghost use Rattle.keyword_plans.specs.Followed.{target_view};
 ghost use Rattle.schema_scan.specs.Locateds.{located_view};
 
+use crate::tuning::LONG_LOCATION;
 use basic_output::Origin;
 use json_doc::Doc;
 use linker::Linked;
+use locations::Step;
 use schema_scan::Located;
 use std::alloc::{AllocError, Global};
 use std::rc::Rc;
@@ -36,8 +38,15 @@ impl<'a> Target<'a> {
             steps,
             schema,
         } = located;
-        let origin = Rc::new(alloc, Origin::within(String::new(alloc), resource, steps)?)?;
-        Ok(Target { origin, schema })
+        let origin = if is_long(resource, &steps) {
+            Origin::unwritten(resource, steps)
+        } else {
+            Origin::within(String::new(alloc), resource, steps)?
+        };
+        Ok(Target {
+            origin: Rc::new(alloc, origin)?,
+            schema,
+        })
     }
 
     /// A copy of this schema, which shares its origin. The only error is want of memory.
@@ -49,6 +58,17 @@ impl<'a> Target<'a> {
             schema: self.schema,
         })
     }
+}
+
+// Whether the text of the location at these steps in the resource is long.
+fn is_long(resource: &str, steps: &[Step<'_>]) -> bool {
+    let mut bytes = resource.len();
+    for step in steps {
+        if let Step::Name(name) = step {
+            bytes = bytes.saturating_add(name.len());
+        }
+    }
+    bytes > LONG_LOCATION
 }
 
 /// The schema with this dynamic anchor in the resource with this URI, to be shared: both are compared. The only error is want

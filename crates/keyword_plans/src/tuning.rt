@@ -17,6 +17,10 @@ pub(crate) const APART: usize = 11;
 /// fast as among those that are kept by their numbers.
 pub(crate) const SHORT_REFERENCE: usize = 128;
 
+/// The location of what a reference names is written at once where it takes no more bytes than this, for the units below it:
+/// longer ones of many references that are kept would take more memory than is worth it.
+pub(crate) const LONG_LOCATION: usize = 1024;
+
 /// How many dynamic anchors are kept with what they name in the scope: memory, against a walk along the scope.
 pub(crate) const KEPT_ANCHORS: usize = 16;
 

@@ -15,6 +15,7 @@ mod refusal;
 mod repeats;
 mod resources;
 mod table;
+mod text_room;
 mod visit;
 
 pub use absolute_references::AbsoluteReferences;

@@ -1,6 +1,7 @@
 //! What is kept of the schemas of a document.
 
 ghost use Rattle.std.specs.Prelude.{◌≡◌, [], ◌∷◌, ◌++◌, IfOk, OnOk, codes, map, option_map, string_bytes};
+ghost use Rattle.definitions.specs.Lists.{option_list};
 ghost use Rattle.definitions.specs.Resolution.{target_uri};
 ghost use Rattle.definitions.specs.Uris.{without_fragment};
 ghost use Rattle.definitions.specs.Values.{text_at};
@@ -14,6 +15,7 @@ ghost use Rattle.schema_table.specs.Gathering.{anchor_mark, identifier_at, marks
 use crate::absolute_references::AbsoluteReferences;
 use crate::anchors::Anchor;
 use crate::resources::Opened;
+use crate::text_room::TextRoom;
 use json_doc::Doc;
 use locations::{OwnedWay, Step, own};
 use std::alloc::{AllocError, Global};
@@ -35,6 +37,8 @@ pub struct SchemaTable {
     pub anchors: Vec<Anchor>,
     /// What the references, and the `$id`s, are read as.
     pub read: AbsoluteReferences,
+    // Room for more texts.
+    room: TextRoom,
 }
 
 impl SchemaTable {
@@ -53,6 +57,7 @@ impl SchemaTable {
             texts: Vec::new(alloc),
             anchors: Vec::new(alloc),
             read: AbsoluteReferences::new(alloc),
+            room: TextRoom::new(),
         }
     }
 
@@ -69,6 +74,7 @@ impl SchemaTable {
             (λ uri. string_bytes uri ≡ without_fragment (target_uri around.now opened.entry.id.now)) }
         ensures extends { OnOk result (Extends self.old self.new []) }
     {
+        self.room.take(1, opened.named.uri.len())?;
         let uri = String::from_str(alloc, opened.named.uri.as_str())?;
         self.read.insert(alloc, around, opened.id, opened.named)?;
         Ok(uri)
@@ -88,6 +94,8 @@ impl SchemaTable {
             (spot_in (step_hops way.now) start uri.now (value schema.now) ∷ [])) }
     {
         if way.len() <= start {
+            self.room.take(2, uri.len())?;
+            self.room.take_way(way)?;
             push_root(alloc, &mut self.uris, &mut self.ways, uri, way)?;
             push_identifier(alloc, &mut self.identifiers, schema)?;
         }
@@ -96,10 +104,19 @@ impl SchemaTable {
             &mut self.references,
             &mut self.texts,
             &mut self.read,
+            &mut self.room,
             uri,
             schema,
         )?;
-        push_anchors(alloc, &mut self.anchors, uri, start, way, schema)?;
+        push_anchors(
+            alloc,
+            &mut self.anchors,
+            &mut self.room,
+            uri,
+            start,
+            way,
+            schema,
+        )?;
         Ok(())
     }
 }
@@ -145,6 +162,7 @@ fn push_references(
     references: &mut Vec<String>,
     texts: &mut Vec<String>,
     read: &mut AbsoluteReferences,
+    room: &mut TextRoom,
     base: &str,
     schema: &Doc,
 ) -> Result<(), AllocError>
@@ -153,27 +171,32 @@ fn push_references(
     ensures texts { OnOk result (map string_bytes texts.new.items
         ≡ map string_bytes texts.old.items ++ texts_at (value schema.now)) }
 {
-    push_reference(alloc, references, texts, read, "$ref", base, schema)?;
-    push_reference(alloc, references, texts, read, "$dynamicRef", base, schema)
+    let reference = schema.text_at("$ref");
+    let dynamic = schema.text_at("$dynamicRef");
+    push_reference(alloc, references, texts, read, room, base, reference)?;
+    push_reference(alloc, references, texts, read, room, base, dynamic)
 }
 
+// Appends a reference, if there is one.
 fn push_reference(
     alloc: Global,
     references: &mut Vec<String>,
     texts: &mut Vec<String>,
     read: &mut AbsoluteReferences,
-    keyword: &str,
+    room: &mut TextRoom,
     base: &str,
-    schema: &Doc,
+    reference: Option<&str>,
 ) -> Result<(), AllocError>
     ensures references { OnOk result (map string_bytes references.new.items
         ≡ map string_bytes references.old.items
-        ++ reference_under keyword.now base.now (value schema.now)) }
+        ++ option_list (option_map (λ t. target_uri base.now t.now) reference.entry)) }
     ensures texts { OnOk result (map string_bytes texts.new.items
-        ≡ map string_bytes texts.old.items ++ text_under keyword.now (value schema.now)) }
+        ≡ map string_bytes texts.old.items ++ option_list (option_map (λ t. t.now) reference.entry)) }
 {
-    if let Some(reference) = schema.text_at(keyword) {
-        references.push(read.resolve(alloc, base, reference)?)?;
+    if let Some(reference) = reference {
+        let absolute = read.resolve(alloc, base, reference)?;
+        room.take(2, absolute.len())?;
+        references.push(absolute)?;
         texts.push(String::from_str(alloc, reference)?)?;
     }
     Ok(())
@@ -184,6 +207,7 @@ fn push_reference(
 fn push_anchors(
     alloc: Global,
     anchors: &mut Vec<Anchor>,
+    room: &mut TextRoom,
     uri: &str,
     start: usize,
     way: &[Step<'_>],
@@ -194,9 +218,13 @@ fn push_anchors(
         ++ marks (spot_in (step_hops way.now) start uri.now (value schema.now))) }
 {
     if let Some(name) = plain_anchor(schema) {
+        room.take(1, uri.len())?;
+        room.take_way(way)?;
         anchors.push(anchor(alloc, name, false, uri, start, way)?)?;
     }
     if let Some(name) = schema.text_at("$dynamicAnchor") {
+        room.take(1, uri.len())?;
+        room.take_way(way)?;
         anchors.push(anchor(alloc, name, true, uri, start, way)?)?;
     }
     Ok(())

@@ -9,7 +9,7 @@ use Rattle.locations.specs.Ways.{owned_hops}
 use Rattle.schema_table.specs.Gathering.{anchor_mark, table_uris, table_identifiers, table_ways, table_references, table_texts, table_marks, references_at, texts_at, marks}
 use Rattle.schema_table.proofs.Gatherings.{root_identifier-one, root_uri-one, root_way-one}
 use Rattle.schema_table.proofs.table.SchemaTable.add.Goals as goal
-use Rattle.schema_table.proofs.table.SchemaTable.add.Goals.{then-way-start+in_ok-push_root+in_ok-push_identifier, else-way-start}
+use Rattle.schema_table.proofs.table.SchemaTable.add.Goals.{then-way-start+in_ok-take+in_ok-take_way+in_ok-push_root+in_ok-push_identifier, else-way-start}
 
 is-root : (steps : List Step) (start : ℕ) → length steps ≤ start → nat_le (length (step_hops steps)) start ≡ true
 is-root steps start h = rw length-map (grind (arith, nat_tests))
@@ -31,7 +31,7 @@ returns c =
     let texts = c.in_ok-push_references.ensures.texts in
     let anchors = c.in_ok-push_anchors.ensures in
     elim c.if-way-start.branch [
-      | then-way-start+in_ok-push_root+in_ok-push_identifier w ↦
+      | then-way-start+in_ok-take+in_ok-take_way+in_ok-push_root+in_ok-push_identifier w ↦
           let root : at_root s ≡ true = is-root c.args.way.now c.args.start w.if-way-start.true in
           record {
             uris = ap (λ g. map string_bytes g.uris.items) w.self-is ∙ w.in_ok-push_root.ensures.uris ∙ ap (λ us. map string_bytes before.uris.items ++ us) (sym (root_uri-one s true root));

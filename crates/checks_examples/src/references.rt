@@ -2,7 +2,7 @@
 
 use crate::documents::listed;
 use crate::texts::{URI, answer, expect_holds, expect_same, expect_told};
-use keyword_plans::FollowedReferences;
+use keyword_plans::DynamicScope;
 use linker::{Fault, Linked, link};
 use std::alloc::{AllocError, Global};
 use std::process::Abort;
@@ -227,12 +227,12 @@ const NAMED: &[Named] = &[
 // Whether the reference names what stands so many steps below the root of this resource, or nothing.
 fn names<'a>(
     alloc: Global,
-    references: &mut FollowedReferences<'a>,
+    scope: &mut DynamicScope<'a>,
     resource: &'a str,
     reference: &'a str,
     named: Option<(&str, usize)>,
 ) -> Result<bool, Fault> {
-    match references.target(alloc, resource, reference)? {
+    match scope.target(alloc, resource, reference)? {
         Some(target) => match named {
             Some((uri, steps)) => {
                 let origin = &target.origin;
@@ -244,19 +244,19 @@ fn names<'a>(
     }
 }
 
-fn expect_named(rt: &impl Abort, alloc: Global, references: &mut FollowedReferences<'_>) {
+fn expect_named(rt: &impl Abort, alloc: Global, scope: &mut DynamicScope<'_>) {
     for row in NAMED {
         let (why, resource, reference, named) = *row;
-        let is_named = names(alloc, references, resource, reference, named);
+        let is_named = names(alloc, scope, resource, reference, named);
         expect_holds(rt, is_named, why);
     }
 }
 
 // Each is followed, and once more.
 fn expect_followed(rt: &impl Abort, alloc: Global, linked: &Linked) {
-    let mut references = FollowedReferences::new(alloc, linked);
-    expect_named(rt, alloc, &mut references);
-    expect_named(rt, alloc, &mut references);
+    let mut scope = DynamicScope::new(alloc, linked);
+    expect_named(rt, alloc, &mut scope);
+    expect_named(rt, alloc, &mut scope);
 }
 
 fn linked(alloc: Global) -> Result<Linked, Fault> {

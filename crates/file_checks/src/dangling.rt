@@ -1,18 +1,17 @@
 //! References that lead nowhere (JSON Schema 2020-12 Core, section 8.2.3).
 
-ghost use Rattle.std.specs.Prelude.{◌≡◌, IfErr, IfOk, is_some, map, option_map};
-ghost use Rattle.definitions.specs.Fragments.{fragment_kind};
+ghost use Rattle.std.specs.Prelude.{◌≡◌, IfErr, IfOk, is_some, map};
 ghost use Rattle.definitions.specs.Schemas.{table_of};
-ghost use Rattle.definitions.specs.Targets.{target, target_in};
-ghost use Rattle.schema_scan.specs.CompiledDocuments.{compiled_schemas, compiled_view};
+ghost use Rattle.definitions.specs.Targets.{target};
+ghost use Rattle.schema_scan.specs.CompiledDocuments.{compiled_view};
 ghost use Rattle.file_checks.specs.FileTexts.{dangling_references};
 
 use crate::documents::FileDocuments;
 use faults::Fault;
-use linker::Source;
+use linker::{Source, names_in};
 use schema_scan::Compiled;
-use std::alloc::Global;
-use uri_ref::{fragment_kind, split, without_fragment};
+use std::alloc::{AllocError, Global};
+use uri_ref::{split, without_fragment};
 
 impl FileDocuments {
     ghost use Rattle.file_checks.specs.FileSources.{file_documents};
@@ -38,10 +37,9 @@ impl FileDocuments {
     }
 
     // Whether the absolute reference names a schema of these documents. A fragment that can't be read names nothing.
-    fn names_schema(&self, alloc: Global, reference: &str) -> Result<bool, Fault>
-        ensures ok { IfOk result (λ named. named
+    fn names_schema(&self, alloc: Global, reference: &str) -> Result<bool, AllocError>
+        ensures { IfOk result (λ named. named
             ≡ is_some (target (table_of (file_documents self.now)) reference.now)) }
-        ensures err { IfErr result (λ f. f ≡ Fault.NoRoom) }
     {
         let uri = without_fragment(reference);
         let mut source = &self.source;
@@ -49,25 +47,5 @@ impl FileDocuments {
             Some(document) => names_in(alloc, &document, uri, split(reference).fragment()),
             None => Ok(false),
         }
-    }
-}
-
-// Whether the fragment names a schema in the document's resource with this URI.
-fn names_in(
-    alloc: Global,
-    document: &Compiled,
-    uri: &str,
-    fragment: Option<&str>,
-) -> Result<bool, Fault>
-    ensures ok { IfOk result
-        (λ named. named ≡ is_some
-        (target_in (compiled_schemas document.now) uri.now
-        (fragment_kind (option_map (λ t. t.now) fragment.entry)))) }
-    ensures err { IfErr result (λ f. f ≡ Fault.NoRoom) }
-{
-    match fragment_kind(alloc, fragment) {
-        Ok(kind) => Ok(document.target(alloc, uri, &kind)?.is_some()),
-        Err(Fault::NoRoom) => Err(Fault::NoRoom),
-        Err(_) => Ok(false),
     }
 }

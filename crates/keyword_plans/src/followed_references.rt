@@ -44,7 +44,7 @@ struct FollowedReference<'a> {
 ///
 /// To follow one of them again takes no memory. Contracts see the documents that they stand in, by `followed_in`.
 #[derive(Drop)]
-pub struct FollowedReferences<'a> {
+pub(crate) struct FollowedReferences<'a> {
     linked: &'a Linked,
     short: Vec<Option<FollowedReference<'a>>>,
     long: BTreeMap<(usize, usize, usize), FollowedReference<'a>>,
@@ -60,7 +60,7 @@ impl<'a> FollowedReferences<'a> {
     ghost use Rattle.linker.specs.OpenedSchemas.{Opens};
 
     /// None yet. This takes no memory.
-    pub fn new(alloc: Global, linked: &'a Linked) -> FollowedReferences<'a>
+    pub(crate) fn new(alloc: Global, linked: &'a Linked) -> FollowedReferences<'a>
         ensures { followed_in result ≡ linked.entry }
     {
         FollowedReferences {
@@ -73,7 +73,7 @@ impl<'a> FollowedReferences<'a> {
 
     /// The schema that a reference of the documents' schemas names (JSON Schema 2020-12 Core, section 8.2.3): the reference's
     /// text, and the URI of the resource that it stands in. The only error is want of memory.
-    pub fn target(
+    pub(crate) fn target(
         &mut self,
         alloc: Global,
         resource: &'a str,

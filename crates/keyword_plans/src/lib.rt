@@ -18,7 +18,6 @@ mod verdict;
 pub use application::{Earlier, ObjectApplication};
 pub use dynamic_scope::DynamicScope;
 pub use enumerations::Enumerations;
-pub use followed_references::FollowedReferences;
 pub use planning::{plan, surely_applies_nothing};
 pub use searches::Searches;
 pub use target::Target;

@@ -40,8 +40,9 @@ fn names_schema(
     }
 }
 
-// Whether the fragment names a schema in the document's resource with this URI.
-fn names_in(
+/// Whether the fragment names a schema in the document's resource with this URI. A fragment that can't be read names nothing. The
+/// only error is want of memory.
+pub fn names_in(
     alloc: Global,
     document: &Compiled,
     uri: &str,

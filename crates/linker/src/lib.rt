@@ -24,6 +24,7 @@ mod visiting;
 pub use both::Both;
 pub use contents::{asked, documents, reached, value_of};
 pub use faults::Fault;
+pub use judging::names_in;
 pub use linked::Linked;
 pub use linked_texts::LinkedTexts;
 pub use linking::link;

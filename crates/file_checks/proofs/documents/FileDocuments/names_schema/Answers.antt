@@ -9,8 +9,8 @@ use Rattle.file_checks.specs.FileSources.{file_documents}
 use Rattle.file_checks.proofs.Held.{distinct_documents}
 use Rattle.file_checks.proofs.documents.FileDocuments.names_schema.Goals as goal
 
-pub returns-in-Some-clause-ok : goal.returns-in-Some-clause-ok
-returns-in-Some-clause-ok c =
+pub returns-in-Some : goal.returns-in-Some
+returns-in-Some c =
     let ds = file_documents c.args.self.now in
     let reference = c.args.reference.now in
     let document = c.in-Some.document.value in
@@ -22,10 +22,10 @@ returns-in-Some-clause-ok c =
     ∙ ap (λ d. target_in (compiled_schemas d) c.without_fragment-uri.result.now (fragment_of reference)) c.deref.ensures
     ∙ ap (λ u. target_in (compiled_schemas document) u (fragment_of reference)) c.without_fragment-uri.ensures
     ∙ sym (target_where_held ds reference (compiled_view document) (distinct_documents c.args.self.now) found))
-    c.names_in.ensures.ok
+    c.names_in.ensures
 
-pub returns-in-None-clause-ok : goal.returns-in-None-clause-ok
-returns-in-None-clause-ok c =
+pub returns-in-None : goal.returns-in-None
+returns-in-None c =
     let ds = file_documents c.args.self.now in
     sym (ap is_some (no_target ds c.args.reference.now
     (ap (λ u. find (holds_resource u) ds) (sym c.without_fragment-uri.ensures)

@@ -27,7 +27,8 @@ use uri_ref::{Parts, recompose};
 ///   both in byte order of names.
 /// - [`Fault::DuplicateUri`]: two schemas open a resource of one URI.
 /// - [`Fault::DuplicateAnchor`]: two schemas of one resource have an anchor of one name.
-/// - [`Fault::NoRoom`]: memory ran out.
+/// - [`Fault::NoRoom`]: memory ran out, or the document's URIs, absolute references and ways to roots and anchors would take
+///   more than 128 MiB together.
 ///
 /// Names that are no keywords are no fault, nor is `$schema` below the root of a resource.
 pub fn scan<'a>(alloc: Global, base: &Parts, document: &'a Doc) -> Result<Scanned<'a>, Fault>

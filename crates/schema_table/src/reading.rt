@@ -25,7 +25,8 @@ const MOST_NESTED: usize = 120;
 /// - [`Fault::BadKeyword`], [`Fault::BadId`], [`Fault::BadAnchor`], [`Fault::Dialect`]: the first on the walk.
 /// - [`Fault::DuplicateUri`]: two schemas open a resource of one URI.
 /// - [`Fault::DuplicateAnchor`]: two schemas of one resource have an anchor of one name.
-/// - [`Fault::NoRoom`]: memory ran out.
+/// - [`Fault::NoRoom`]: memory ran out, or the document's URIs, absolute references and ways to roots and anchors would take
+///   more than 128 MiB together.
 pub fn read_schemas<'a>(alloc: Global, base: &str, document: &'a Doc) -> Result<Gathered<'a>, Fault>
     ensures ok { IfOk result
         (λ g. IsGathered g (spots [] 0 base.now (value document.now))) }
